@@ -14,7 +14,7 @@ use catalogue_standings::opening::SHEETS;
 use image_soundness::SCRATCH;
 use roles::SERVICE;
 use std::io;
-use std::io::{Read, Write};
+use std::io::{Read, Stdin, Stdout, Write};
 
 // 91 blocks, and one byte more, by which a longer input is seen.
 fn image_space() -> [u8; 46593]
@@ -53,8 +53,8 @@ fn smaller(a: usize, b: usize) -> usize
 // Prints an image as service, with as many words, entries and words of scratch as it asks for and there are at most. The text
 // has room
 // for all that is to be printed: in so many bytes nothing is cut (`prints_whole`, proofs/Whole.antt).
-fn print_card<W: Write>(
-    out: &mut W,
+fn print_card(
+    out: &mut Stdout,
     image: &[u8],
     map: &mut [u64],
     scratch: &mut [u64],
@@ -87,7 +87,7 @@ fn print_card<W: Write>(
 }
 
 // Reads to the end of the input, or until all the bytes are filled, and gives how many were read.
-fn read_full<R: Read>(input: &mut R, bytes: &mut [u8]) -> io::Result<usize> {
+fn read_full(input: &mut Stdin, bytes: &mut [u8]) -> io::Result<usize> {
     let mut at = 0;
     while at < bytes.len() {
         let read = input.read(&mut bytes[at..])?;

@@ -299,12 +299,8 @@ module _ (n : ℕ) (l : List Sheet) (card : List ℕ) (k : Matches n l card) whe
         held = blocks;
       }
 
-      at_reads : at ≡ reads n l turned i (record {
-        blank = λ p. false;
-        sound = λ p. false;
-        term = record { first = 0; last = 0 };
-        held = 0;
-      })
+      at_reads : at ≡ reads n l turned i
+          (record { blank = λ p. false; sound = λ p. false; term = record { first = 0; last = 0 }; held = 0 })
       unfolding view_at
       at_reads = λ t. record {
         turned = turned;

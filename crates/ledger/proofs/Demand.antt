@@ -23,7 +23,7 @@ use Rattle.catalogue_standings.specs.Rows.{Verdict, accepted, first_of, settle}
 use Rattle.roles.specs.Roles as roles
 use Rattle.roles.specs.Roles.{may, pharmacist}
 use Rattle.refusals.specs.Table as table
-use Rattle.refusals.specs.Table.{SheetCall, show, lowest_blank, table_of}
+use Rattle.refusals.specs.Table.{Ask, SheetCall, show, lowest_blank, table_of}
 use Rattle.ledger.specs.Calls.{Call, on}
 use Rattle.ledger.specs.Ledger.{Place, Blank, Payload, Sheet, Absent, Complete, standing_in, start_in, length_in, places_in}
 use Rattle.ledger.specs.Ledger.{bytes_of, sheet_at, place_at, cover, free_in, spare_in, listed, verdict_in, deed_in, step_in}
@@ -298,9 +298,16 @@ module _ (n c : ℕ) (card : List ℕ) (limits : Limits n c) (room : length card
       scratch = λ e. absurd (false≢true (ap isClose e));
       summary = λ e. absurd (false≢true e);
     },
-    plain_own _ calls,
+    plain_own (kept_after (end_of s (asked sheet ask))) calls,
   )
     where
+      asked : ℕ → Ask → Made
+      asked sheet ask = record {
+        manner = public.by_map pharmacist;
+        beside = record { summary = []; scratch = []; image = [] };
+        call = public.on sheet ask;
+      }
+
       isClose : Public → Bool
       isClose (public.on sheet ask) = false
       isClose (fresh n) = false

@@ -9,7 +9,6 @@ use lib.Dec.{eqb}
 use lib.ListN.{length}
 use borrow.Author.Tests.{eq-eqb}
 use Rattle.laws.proofs.Bools.{and_both}
-use Rattle.survey.specs.Survey.{blocks}
 use Rattle.catalogue_standings.specs.Limits.{shape_fits, sheets_fit}
 use Rattle.catalogue_standings.specs.Rows.{accepted, first_of}
 use Rattle.catalogue_standings.proofs.Openings.{skip}

@@ -20,29 +20,29 @@ use Rattle.refusals.specs.Table.{show_dated}
 use Rattle.ledger.specs.Ledger.{Sheet, verdict_in}
 use Rattle.ledger.proofs.Agreement.{Matches}
 use Rattle.ledger.proofs.Results.{Result}
-use Accept.{accept-result}
-use Change.{change-result}
-use Close.{close-result}
-use Complete.{complete-result}
-use Grow.{grow-result}
-use Offer.{offer-result}
-use Put.{put-result}
-use Release.{release-result}
-use Reserve.{reserve-result}
-use Show.{show-result}
-use ShowDated.{show-dated-result}
-use Standing.{standing-result}
+use Accept.{accept_result}
+use Change.{change_result}
+use Close.{close_result}
+use Complete.{complete_result}
+use Grow.{grow_result}
+use Offer.{offer_result}
+use Put.{put_result}
+use Release.{release_result}
+use Reserve.{reserve_result}
+use Show.{show_result}
+use ShowDated.{show_dated_result}
+use Standing.{standing_result}
 
 pub result : (n : ℕ) (l : List Sheet) (card : List ℕ) → Matches n l card → (c : Call) → Result n l card c (verdict_in n l c)
-result n l card k (on role i (reserve limits m placement)) = reserve-result n l card k role i limits m placement
-result n l card k (on role i (offer limits m)) = offer-result n l card k role i limits m
-result n l card k (on role i (accept limits start m)) = accept-result n l card k role i limits start m
-result n l card k (on role i (put p payload)) = put-result n l card k role i p payload
-result n l card k (on role i (grow limits m)) = grow-result n l card k role i limits m
-result n l card k (on role i complete) = complete-result n l card k role i
-result n l card k (on role i (change c)) = change-result n l card k role i c
-result n l card k (on role i release) = release-result n l card k role i
-result n l card k (on role i (show p buffer)) = show-result n l card k role i p buffer
-result n l card k (on role i (show_dated p date buffer)) = show-dated-result n l card k role i p date buffer
-result n l card k (on role i standing) = standing-result n l card k role i
-result n l card k (close role) = close-result n l card k role
+result n l card k (on role i (reserve limits m placement)) = reserve_result n l card k role i limits m placement
+result n l card k (on role i (offer limits m)) = offer_result n l card k role i limits m
+result n l card k (on role i (accept limits start m)) = accept_result n l card k role i limits start m
+result n l card k (on role i (put p payload)) = put_result n l card k role i p payload
+result n l card k (on role i (grow limits m)) = grow_result n l card k role i limits m
+result n l card k (on role i complete) = complete_result n l card k role i
+result n l card k (on role i (change c)) = change_result n l card k role i c
+result n l card k (on role i release) = release_result n l card k role i
+result n l card k (on role i (show p buffer)) = show_result n l card k role i p buffer
+result n l card k (on role i (show_dated p date buffer)) = show_dated_result n l card k role i p date buffer
+result n l card k (on role i standing) = standing_result n l card k role i
+result n l card k (close role) = close_result n l card k role

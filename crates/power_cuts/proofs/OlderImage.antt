@@ -28,6 +28,8 @@ use Rattle.power_cuts.proofs.Writes.{settled, finished_holds}
 pub untouched_by : (s : Kept) → Apart s → (made : List Made) (es : List End) (t : Kept) → NoneUnsettles s made
     → Runs s made es t
     → (sheet start count : ℕ) → Finished s sheet start count → Untouched s t sheet start count
+untouched_by s a [] (e ∷ es) t quiet r sheet start count f = elim r [ ]
+untouched_by s a (m ∷ made) [] t quiet r sheet start count f = elim r [ ]
 untouched_by s a [] [] t quiet r sheet start count f = record {
   held = subst (λ (u : Kept). Finished u sheet start count) (sym r) f;
   same = λ p l. ap (λ (u : Kept). block_of u.card (start + p)) r;
@@ -42,6 +44,8 @@ untouched_by s a (m ∷ made) (e ∷ es) t quiet r sheet start count f =
 
 pub same_length : (s : Kept) (made : List Made) (es : List End) (t : Kept) → Runs s made es t
     → length t.card ≡ length s.card
+same_length s [] (e ∷ es) t r = elim r [ ]
+same_length s (m ∷ made) [] t r = elim r [ ]
 same_length s [] [] t r = ap (λ (u : Kept). length u.card) r
 same_length s (m ∷ made) (e ∷ es) t r =
     same_length (kept_after (end_of s m)) made es t (subst (λ (x : End). Runs (kept_after x) made es t) r.0 r.1)

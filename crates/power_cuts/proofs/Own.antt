@@ -255,6 +255,8 @@ keeps_own m s b c sound quiet own =
 
 list_own : (s : Kept) → Apart s → OwnBlocks s → (made : List Made) (es : List End) (t : Kept)
     → Along (λ s m. (loads (sort_of m.call) && done (end_of s m)) ≡ false) s made → Runs s made es t → OwnBlocks t
+list_own s a own [] (e ∷ es) t quiet r = elim r [ ]
+list_own s a own (m ∷ made) [] t quiet r = elim r [ ]
 list_own s a own [] [] t quiet r = subst OwnBlocks (sym r) own
 list_own s a own (m ∷ made) (e ∷ es) t quiet r =
     let v : Kept = kept_after (end_of s m) in

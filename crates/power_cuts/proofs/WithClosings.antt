@@ -34,6 +34,8 @@ none_doubtful false = refl
 
 since_list : (saved s : Kept) (released moved : Bool) → Since saved s released moved false
     → (made : List Made) (es : List End) (t : Kept) → NoneTakenAfterRelease released s made → Runs s made es t → Noted saved t
+since_list saved s released moved x [] (e ∷ es) t quiet r = elim r [ ]
+since_list saved s released moved x (m ∷ made) [] t quiet r = elim r [ ]
 since_list saved s released moved x [] [] t quiet r = record {
   released = released;
   moved = moved;

@@ -6,6 +6,7 @@ use mathlib.Core.Logic.{⊎_elim}
 use mathlib.Core.Bool.{Bool, true, false, ◌&&◌, cond}
 use mathlib.Core.List.{List}
 use native.Mathlib.Omega.{arith}
+use lib.Dec.{ltb}
 use lib.ListN.{length, get_or, get_or-eq_default}
 use Rattle.laws.proofs.Bools.{order}
 use Rattle.map_blocks.specs.Blocks.{free}
@@ -35,7 +36,7 @@ marked_words map start k to = of_map (λ b. cond (in_run start k b) to (free map
 
 fresh_words : (n w : ℕ) → Words (fresh_map n w)
 unfolding fresh_map
-fresh_words n w = of_map _ w
+fresh_words n w = of_map (λ b. ltb b n) w
 
 pub keeps_words : (s t : Kept) (c : Public) (d : Bool) → Deed s t c d → (loads (sort_of c) && d) ≡ false → Words s.map
     → Words t.map

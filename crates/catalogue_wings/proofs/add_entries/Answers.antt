@@ -7,8 +7,10 @@ use Rattle.catalogue_wings.proofs.add_entries.Goals as goal
 
 pub loop-i-preserved : goal.loop-i-preserved
 loop-i-preserved c =
-    grind (arith, entries_more c.args.catalogue.now c.loop-i.i (end_of c.args.first (length c.args.catalogue.now)) c.loop-i.state (omega arith))
+    let end = end_of c.args.first (length c.args.catalogue.now) in
+    grind (arith, entries_more c.args.catalogue.now c.loop-i.i end c.loop-i.state (omega arith))
 
 pub returns : goal.returns
 returns c =
-    grind (arith, entries_none c.args.catalogue.now c.loop-i.i (end_of c.args.first (length c.args.catalogue.now)) c.loop-i.state (omega arith))
+    let end = end_of c.args.first (length c.args.catalogue.now) in
+    grind (arith, entries_none c.args.catalogue.now c.loop-i.i end c.loop-i.state (omega arith))

@@ -27,8 +27,8 @@ loop-i-init c = (omega arith, none _ _ _)
 pub loop-i-preserved : goal.loop-i-preserved
 loop-i-preserved c =
     let e = more c.loop-i.i _ c.loop-i.catalogue c.loop-i.card c.loop-i.state c.loop-i.invariant.1 in
-    let after = c.close_next-state.ensures in
-    (omega arith, simp (sym after.0, sym after.1, sym after.2) at e)
+    let turn = c.close_next-state.ensures in
+    (omega arith, simp (sym turn.0, sym turn.1, sym turn.2) at e)
 
 pub returns : goal.returns
 unfolding rounds_at rounds_entries rounds_card

@@ -56,7 +56,7 @@ module _ (n : ℕ) (l : List Sheet) (card : List ℕ) (k : Matches n l card) (ro
   -- its rows are those of the plain reserve
   never : NeverRows n l card k role i (offer limits m)
   unfolding rows_for
-  never = reserving.never-for n l card k role i limits m plain (turned_in role ask)
+  never = reserving.never_for n l card k role i limits m plain (turned_in role ask)
 
   sharing : Sharing n l role i ask
   unfolding rows_for

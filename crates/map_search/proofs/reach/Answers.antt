@@ -15,7 +15,13 @@ use Rattle.map_search.proofs.Window.{at_start, whole_words}
 use Rattle.map_search.proofs.reach.Goals as goal
 
 pub returns-then-w-ne0 : goal.returns-then-w-ne0
-returns-then-w-ne0 c = let a = c.args in record { from_bound = (omega arith, omega arith); by_index = cut_word a.map.now a.from a.before (a.from / 64) c.part.result c.part.ensures; by_index_2 = λ k h. at_start (free a.map.now) a.from a.before k (a.from / 64 * 64) h (omega arith) }
+returns-then-w-ne0 c =
+    let a = c.args in
+    record {
+      from_bound = (omega arith, omega arith);
+      by_index = cut_word a.map.now a.from a.before (a.from / 64) c.part.result c.part.ensures;
+      by_index_2 = λ k h. at_start (free a.map.now) a.from a.before k (a.from / 64 * 64) h (omega arith);
+    }
 
 pub returns-then-last-first : goal.returns-then-last-first
 returns-then-last-first c = let a = c.args in record {
@@ -49,7 +55,17 @@ loop-i-preserved c = let loop = c.loop-i in
     )
 
 pub returns-after-loop-i : goal.returns-after-loop-i
-returns-after-loop-i c = record { from_bound = (omega arith, omega arith); by_index = c.loop-i.invariant.2; by_index_2 = c.loop-i.invariant.3 }
+returns-after-loop-i c =
+    record {
+      from_bound = (omega arith, omega arith);
+      by_index = c.loop-i.invariant.2;
+      by_index_2 = c.loop-i.invariant.3;
+    }
 
 pub returns-then-w-ne0-2 : goal.returns-then-w-ne0-2
-returns-then-w-ne0-2 c = record { from_bound = (omega arith, omega arith); by_index = c.loop-i.invariant.2; by_index_2 = c.loop-i.invariant.3 }
+returns-then-w-ne0-2 c =
+    record {
+      from_bound = (omega arith, omega arith);
+      by_index = c.loop-i.invariant.2;
+      by_index_2 = c.loop-i.invariant.3;
+    }

@@ -34,7 +34,11 @@ returns-in-Hit c = let here = c in
     let end : ℕ = here.group_end-end.result * 64 in
     let bounds : Bounded a.k end (Hit c.in-Hit.start) =
     subst (Bounded a.k end) c.in-Hit.is here.scan_words.ensures.bounded in
-    record { bounded = omega arith; by_index = λ f shows at. subst (Stepped f a.k end) c.in-Hit.is (group (goal.at.returns-in-Hit c).After-scan_words f shows at) }
+    record {
+      bounded = omega arith;
+      by_index = λ f shows at.
+          subst (Stepped f a.k end) c.in-Hit.is (group (goal.at.returns-in-Hit c).After-scan_words f shows at);
+    }
 
 pub loop-i-preserved : goal.loop-i-preserved
 loop-i-preserved c = let here = c in

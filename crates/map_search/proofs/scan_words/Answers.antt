@@ -29,7 +29,12 @@ loop-i-init c = (omega arith, omega arith, omega arith, omega arith, λ f shows 
 pub returns-in-Hit : goal.returns-in-Hit
 returns-in-Hit c = let here = c in
     let a = here.args in
-    let i : ℕ = here.loop-i.i in record { bounded = omega (arith, subst (Bounded a.k (i * 64 + 64)) c.in-Hit.is here.scan_word.ensures.bounded); by_index = λ f shows at. subst (Stepped f a.k (i * 64 + 64)) c.in-Hit.is (word (goal.at.returns-in-Hit c).After-scan_word f shows at) }
+    let i : ℕ = here.loop-i.i in
+    record {
+      bounded = omega (arith, subst (Bounded a.k (i * 64 + 64)) c.in-Hit.is here.scan_word.ensures.bounded);
+      by_index = λ f shows at.
+          subst (Stepped f a.k (i * 64 + 64)) c.in-Hit.is (word (goal.at.returns-in-Hit c).After-scan_word f shows at);
+    }
 
 pub loop-i-preserved : goal.loop-i-preserved
 loop-i-preserved c = let here = c in

@@ -27,4 +27,8 @@ pub returns-after-loop-i : goal.returns-after-loop-i
 returns-after-loop-i c = record { first_le_word = (omega arith, omega arith, omega arith); by_index = c.loop-i.invariant.3 }
 
 pub returns-then-any_free-ne0 : goal.returns-then-any_free-ne0
-returns-then-any_free-ne0 c = record { first_le_word = (omega arith, omega arith, omega arith); by_index = c.loop-i.invariant.3 }
+returns-then-any_free-ne0 c =
+    record {
+      first_le_word = (omega arith, omega arith, omega arith);
+      by_index = c.loop-i.invariant.3;
+    }

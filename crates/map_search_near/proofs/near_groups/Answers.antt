@@ -18,7 +18,12 @@ pub loop-at-init : goal.loop-at-init
 loop-at-init c = (omega arith, omega arith, λ t u v. absurd (omega arith))
 
 pub near_words-r-requires : goal.near_words-r-requires
-near_words-r-requires c = let start = c in record { c_bound = (omega arith, omega arith, omega arith, omega arith, omega arith, c.alone-lone.ensures); step_nonzero = (omega arith, omega arith, refl, start.requires.step_nonzero.2) }
+near_words-r-requires c =
+    let start = c in
+    record {
+      c_bound = (omega arith, omega arith, omega arith, omega arith, omega arith, c.alone-lone.ensures);
+      step_nonzero = (omega arith, omega arith, refl, start.requires.step_nonzero.2);
+    }
 
 pub returns-then-r-end : goal.returns-then-r-end
 returns-then-r-end c = let a = c.args in

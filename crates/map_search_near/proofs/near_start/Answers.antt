@@ -8,13 +8,24 @@ use Rattle.map_search_near.proofs.Figures.{run_after}
 use Rattle.map_search_near.proofs.near_start.Goals as goal
 
 pub near_last-requires : goal.near_last-requires
-near_last-requires c = let start = c in record { c_bound = (omega arith, omega arith, omega arith, omega arith, omega arith); step_nonzero = (omega arith, omega arith, start.requires.step_nonzero.2); no_run = λ t u v. absurd (omega arith) }
+near_last-requires c =
+    let start = c in
+    record {
+      c_bound = (omega arith, omega arith, omega arith, omega arith, omega arith);
+      step_nonzero = (omega arith, omega arith, start.requires.step_nonzero.2);
+      no_run = λ t u v. absurd (omega arith);
+    }
 
 pub returns-then-end-c : goal.returns-then-end-c
 returns-then-end-c c = c.near_last.ensures
 
 pub near_groups-r-requires : goal.near_groups-r-requires
-near_groups-r-requires c = let start = c in record { c_bound = (omega arith, omega arith, omega arith, omega arith, omega arith); step_nonzero = (omega arith, omega arith, start.requires.step_nonzero.2) }
+near_groups-r-requires c =
+    let start = c in
+    record {
+      c_bound = (omega arith, omega arith, omega arith, omega arith, omega arith);
+      step_nonzero = (omega arith, omega arith, start.requires.step_nonzero.2);
+    }
 
 pub returns-then-r-end : goal.returns-then-r-end
 returns-then-r-end c = let a = c.args in
@@ -24,7 +35,12 @@ returns-then-r-end c = let a = c.args in
 
 pub near_last-requires-2 : goal.near_last-requires-2
 near_last-requires-2 c = let start = c in
-    let groups = c.near_groups-r in record { c_bound = (omega arith, omega arith, omega arith, omega arith, omega arith); step_nonzero = (omega arith, omega arith, start.requires.step_nonzero.2); no_run = λ t u v on. groups.ensures.none t u (omega arith) on }
+    let groups = c.near_groups-r in
+    record {
+      c_bound = (omega arith, omega arith, omega arith, omega arith, omega arith);
+      step_nonzero = (omega arith, omega arith, start.requires.step_nonzero.2);
+      no_run = λ t u v on. groups.ensures.none t u (omega arith) on;
+    }
 
 pub returns : goal.returns
 returns c = c.near_last-2.ensures

@@ -23,4 +23,9 @@ pub returns-after-loop-i : goal.returns-after-loop-i
 returns-after-loop-i c = let loop = c.loop-i in record { lower_bound = (omega arith, omega arith); by_index = loop.invariant.2 }
 
 pub returns-then-any_start-ne0 : goal.returns-then-any_start-ne0
-returns-then-any_start-ne0 c = let loop = c.loop-i in record { lower_bound = (omega arith, omega arith); by_index = loop.invariant.2 }
+returns-then-any_start-ne0 c =
+    let loop = c.loop-i in
+    record {
+      lower_bound = (omega arith, omega arith);
+      by_index = loop.invariant.2;
+    }

@@ -47,7 +47,11 @@ loop-c-init c = let a = c.args in
 
 pub near_start-s-requires : goal.near_start-s-requires
 near_start-s-requires c = let e : c.smaller-few.result ≡ min c.args.k 64 =
-    c.smaller-few.ensures in record { c_lt_before = (omega arith, omega arith, omega arith, omega arith, omega arith); step_nonzero = (omega arith, omega arith, c.multiples-below.ensures) }
+    c.smaller-few.ensures in
+    record {
+      c_lt_before = (omega arith, omega arith, omega arith, omega arith, omega arith);
+      step_nonzero = (omega arith, omega arith, c.multiples-below.ensures);
+    }
 
 pub returns-then-last-s : goal.returns-then-last-s
 returns-then-last-s c = let a = c.args in

@@ -97,7 +97,8 @@ overflow_add-at c = let test = c in
 pub overflow_add-at-in-Nothing : goal.overflow_add-at-in-Nothing
 overflow_add-at-in-Nothing c = let test = c in
     let start = test in
-    omega (arith, fits (goal.at.overflow_add-at-in-Nothing c).Then-ends_before, start.requires.0, start.requires.1, c.stretch_of.ensures)
+    let inside = fits (goal.at.overflow_add-at-in-Nothing c).Then-ends_before in
+    omega (arith, inside, start.requires.0, start.requires.1, c.stretch_of.ensures)
 
 pub loop-at-smaller : goal.loop-at-smaller
 loop-at-smaller c = let sought = c in

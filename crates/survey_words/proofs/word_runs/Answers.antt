@@ -34,4 +34,7 @@ returns c =
     let w : ℕ = c.args.w in
     let e : c.runs_of_bytes.result - c.crossings.result + crossed 7 w ≡ runs_in 8 w =
     omega (arith, alone w, c.runs_of_bytes.ensures, c.crossings.ensures) in
-    record { value = runs_word_lem w _ _ _ _ _ c.byte_tail.ensures.0 e c.joined_runs.ensures.0; upper_bound = c.joined_runs.ensures.1 }
+    record {
+      value = runs_word_lem w _ _ _ _ _ c.byte_tail.ensures.0 e c.joined_runs.ensures.0;
+      upper_bound = c.joined_runs.ensures.1;
+    }

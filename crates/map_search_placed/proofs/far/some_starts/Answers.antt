@@ -43,7 +43,8 @@ loop-s-init c = (omega arith, omega arith, c.requires.6, λ t a b. absurd (omega
 pub returns-then-stop-a : goal.returns-then-stop-a
 returns-then-stop-a c = let a = c.args in
     let opened = c.open_start-a in
-    (omega arith, omega arith, opened.ensures.2, before-open (goal.at.returns-then-stop-a c).After-open_start-a, λ h. absurd (omega arith))
+    let before = before-open (goal.at.returns-then-stop-a c).After-open_start-a in
+    (omega arith, omega arith, opened.ensures.2, before, λ h. absurd (omega arith))
 
 pub returns-then-r-k : goal.returns-then-r-k
 returns-then-r-k c = let here = c in
@@ -92,4 +93,6 @@ loop-s-preserved c = let here = c in
     )
 
 pub returns : goal.returns
-returns c = let loop = c.loop-s in (loop.invariant.0, loop.invariant.1, loop.invariant.2, loop.invariant.3, λ h. absurd (omega arith))
+returns c =
+    let i = c.loop-s.invariant in
+    (i.0, i.1, i.2, i.3, λ h. absurd (omega arith))

@@ -1,0 +1,6 @@
+use mathlib.Core.Path.{ap, ◌∙◌}
+use Rattle.pagunlit_replies.specs.Replies.{reply_of}
+use Rattle.pagunlit.proofs.pagunlit_search.Goals as goal
+
+pub returns : goal.returns
+returns c = c.reply_of.ensures ∙ ap reply_of c.search-outcome.ensures
