@@ -30,7 +30,6 @@ use Rattle.refusals.specs.declared.Figures.{Figures}
 use Rattle.refusals.proofs.Lent as lent-laws
 use Rattle.refusals.proofs.Lent.{sized}
 use Rattle.refusals.proofs.Placement.{figured, plain_fit, found_fit}
-use Rattle.card.specs.Public.{on}
 use Rattle.power_cuts.proofs.Deeds.{Turns, pauses_none, pauses, resumes}
 
 -- the one standing that a reserve and an accept admit

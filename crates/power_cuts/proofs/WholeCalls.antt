@@ -20,7 +20,7 @@ use Rattle.image.specs.Image.{state_in}
 use Rattle.image.specs.Table.{load_verdict}
 use Rattle.image.proofs.Verdicts.{accepted_to}
 use Rattle.closing.proofs.Closes.{refused_number}
-use Rattle.card.specs.Calls.{Kept, told, is_done, saved_state, fresh_outcome, fresh_map, load_outcome_by, load_outcome}
+use Rattle.card.specs.Calls.{Kept, told, is_done, saved_state, fresh_outcome, load_outcome_by, load_outcome}
 use Rattle.card.specs.Calls.{load_map, load_entries}
 use Rattle.card.specs.declared.Outcome.{Outcome}
 use Rattle.card.specs.Public.{Public, on, fresh, search, survey, save, close, build, check, load, Manner, turned, Beside}

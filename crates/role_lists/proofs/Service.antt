@@ -4,7 +4,7 @@
 use Prim.Native.Nat.{ℕ, ◌*◌, ◌<◌}
 use mathlib.Core.Path.{◌≡◌, refl, sym, ap, subst, ◌∙◌}
 use mathlib.Core.Bool.{Bool, false, cond, not}
-use mathlib.Core.List.{List, [], ◌∷◌, map}
+use mathlib.Core.List.{List, [], ◌∷◌}
 use lib.ListN.{length, length-map}
 use Rattle.calendar.specs.Calendar.{Date}
 use Rattle.roles.specs.Roles as roles
@@ -12,7 +12,7 @@ use Rattle.roles.specs.Roles.{may, service, turned_away}
 use Rattle.catalogue_standings.specs.Rows.{Verdict, accepted, refused}
 use Rattle.catalogue_standings.specs.declared.Standing.TheVariants.{Complete}
 use Rattle.card.specs.Calls.{Kept, show_outcome, show_buffer, show_dated_outcome, show_dated_buffer}
-use Rattle.card.specs.Public.{Public, fresh, load, close, kind_of, Manner, Beside, End}
+use Rattle.card.specs.Public.{Public, kind_of, Manner, Beside, End}
 use Rattle.card.specs.Public.{end_close, ends, kept_after}
 use Rattle.card.proofs.Closings.{verdict_by, close_refused, close_accepted}
 use Rattle.card.proofs.TurnedAway.{every_call_turned_away}
