@@ -1,5 +1,5 @@
-/* The card printer as a program for the page: where the proved program starts, and the functions of a system that it calls,
- * with the lengths that it has on any processor. */
+/* The card printer as a program for the page: where the proved program starts, and the functions of a system that it
+ * calls, with the lengths that it has on any processor. */
 #include <errno.h>
 #include <stdint.h>
 #include <string.h>
