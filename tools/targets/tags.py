@@ -2,8 +2,8 @@
 
     tags.py MODULE > module.ll        MODULE is the library's module as text
 
-The kit's module stores the tag of an enum as a number of its whole width, and reads the first byte of it: on x86-64, which it is
-made for, that is the lowest. So the bytes of each such number are turned around here before it is stored, and a tag has the
+The kit's module stores the tag of an enum as a number of its whole width, and reads the first byte of it: on x86-64, which it
+is made for, that is the lowest. So the bytes of each such number are turned around here before it is stored, and a tag has the
 same bytes on every processor. These stores are those of more than one byte that are said to have no alignment (`align 1`), in
 all functions but those of the header, which so take and give back what C passes: there nothing is turned. What is stored must
 be a constant or a byte that was made wider, and nothing wider than a byte be loaded so; else this program fails."""

@@ -1,5 +1,3 @@
-// No code. Here stood the proofs that closing, being
-// chains of calls over a lent run of entries, meet their contracts. Today's Rattle lays out such functions by itself, and each
-// is
-// proved in its own crate (docs/PORT.md).
+// No code. Here stood the proofs that closing, chains of calls over a lent run of entries, meet their contracts. Today's
+// Rattle lays out such functions by itself, and each is proved in its own crate (docs/PORT.md).
 #![tactic(auto)]
