@@ -18,6 +18,7 @@ import subprocess
 import sys
 import tempfile
 import termios
+import threading
 import time
 
 CTRL_C = '\x03'
@@ -71,6 +72,23 @@ class Terminal:
     def type(self, keys):
         os.write(self.end, keys.encode())
         return self.read_on()
+
+    def type_until_answered(self, keys):
+        """The same keys every two seconds until the console waits for a line: on a busy machine it may not be where the first
+        of them are to find it."""
+        answered = threading.Event()
+
+        def again():
+            while not answered.wait(2):
+                os.write(self.end, keys.encode())
+
+        typing = threading.Thread(target=again)
+        os.write(self.end, keys.encode())
+        typing.start()
+        said = self.read_on()
+        answered.set()
+        typing.join()
+        return said
 
     def line(self, text):
         return self.type(text + '\n')
@@ -180,7 +198,7 @@ def ctrl_c(program):
         os.mkfifo(f'{room}/never')
         os.write(terminal.end, f'load {room}/never\n'.encode())
         time.sleep(0.3)
-        terminal.type(CTRL_C)
+        terminal.type_until_answered(CTRL_C)
     terminal.want('The file could not be read (Interrupted system call)')
     if 'card of' not in terminal.line('card') or terminal.quit() != 0:
         fail(f'after Ctrl-C: {terminal.printed!r}')
