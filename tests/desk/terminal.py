@@ -18,10 +18,10 @@ import subprocess
 import sys
 import tempfile
 import termios
-import threading
 import time
 
 CTRL_C = '\x03'
+READ, PSELECT, OPEN = '0', '270', '257'
 STOP = 'leave: end the script> '
 LESSON = 'desk/lessons/03-full-only-when-it-is.txt'
 PROMPT = re.compile(r'\n([a-z]+( [0-9]+)?)?> $|' + re.escape(STOP) + '$')
@@ -73,22 +73,19 @@ class Terminal:
         os.write(self.end, keys.encode())
         return self.read_on()
 
-    def type_until_answered(self, keys):
-        """The same keys every two seconds until the console waits for a line: on a busy machine it may not be where the first
-        of them are to find it."""
-        answered = threading.Event()
-
-        def again():
-            while not answered.wait(2):
-                os.write(self.end, keys.encode())
-
-        typing = threading.Thread(target=again)
-        os.write(self.end, keys.encode())
-        typing.start()
-        said = self.read_on()
-        answered.set()
-        typing.join()
-        return said
+    def sleeps_in(self, *calls):
+        """Waits until the console has come to wait in one of these system calls of x86-64: a console without line editing that
+        is between its prompt and its read misses a Ctrl-C. Where the system does not tell, 0.3 seconds are waited."""
+        for _ in range(2000):
+            try:
+                with open(f'/proc/{self.child}/syscall') as file:
+                    if file.read().split()[0] in calls:
+                        return
+            except OSError:
+                time.sleep(0.3)
+                return
+            time.sleep(0.01)
+        fail(f'the console does not wait where it is to: {self.printed!r}')
 
     def line(self, text):
         return self.type(text + '\n')
@@ -186,19 +183,21 @@ def ctrl_c(program):
     terminal.line('fresh 8 4')
     os.write(terminal.end, b'reserve 0 3')
     time.sleep(0.2)
+    terminal.sleeps_in(READ, PSELECT)
     if '\n> ' not in terminal.type(CTRL_C):
         fail(f'Ctrl-C at a line: {terminal.printed!r}')
     terminal.line('survey')
     terminal.want('free blocks 8')
     terminal.line(f'run {LESSON}')
+    terminal.sleeps_in(READ, PSELECT)
     said = terminal.type(CTRL_C)
     if not said.endswith('\n> '):
         fail(f'Ctrl-C at a stop: {said!r}')
     with tempfile.TemporaryDirectory() as room:
         os.mkfifo(f'{room}/never')
         os.write(terminal.end, f'load {room}/never\n'.encode())
-        time.sleep(0.3)
-        terminal.type_until_answered(CTRL_C)
+        terminal.sleeps_in(OPEN)
+        terminal.type(CTRL_C)
     terminal.want('The file could not be read (Interrupted system call)')
     if 'card of' not in terminal.line('card') or terminal.quit() != 0:
         fail(f'after Ctrl-C: {terminal.printed!r}')
