@@ -6,13 +6,14 @@ The kit's module stores the tag of an enum as a number of its whole width, and r
 is made for, that is the lowest. So the bytes of each such number are turned around here before it is stored, and a tag has the
 same bytes on every processor. These stores are those of more than one byte that are said to have no alignment (`align 1`), in
 all functions but those of the header, which so take and give back what C passes: there nothing is turned. What is stored must
-be a constant or a byte that was made wider, and nothing wider than a byte be loaded so; else this program fails."""
+be a constant or a byte that was made wider, and nothing wider than a byte be loaded so, but two bytes side by side; else this
+program fails."""
 import re
 import sys
 
 FUNCTION = re.compile(r'^define internal [^@]*@("[^"]*"|[\w.]+)\(.*?^}$', re.M | re.S)
 STORE = re.compile(r'^( *)store i(16|32|64) (\S+), ptr (\S+), align 1$', re.M)
-WIDE = re.compile(r'^ *(?:store (?!i8 )|\S+ = load (?!i8,)).*, align 1(?:, .*)?$', re.M)
+WIDE = re.compile(r'^ *(?:store (?!i8 )|\S+ = load (?!i8,|\{ i8, i8 \},)).*, align 1(?:, .*)?$', re.M)
 
 
 def fail(text):

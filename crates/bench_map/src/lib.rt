@@ -5,8 +5,8 @@ ghost use Rattle.std.specs.Prelude.{◌≡◌};
 ghost use Rattle.bench_map.specs.Answers.{within_limits, searched, surveyed};
 
 use catalogue_standings::opening::BLOCKS;
-use map_blocks::Found;
 
+// What C is given where there is no start, and where the numbers are no card's.
 pub const NO_FIT: u32 = 0xffff_ffff;
 
 pub const OUT_OF_LIMITS: u32 = 0xffff_fffe;
@@ -42,10 +42,7 @@ pub extern "C" fn map_bench_search(map: &[u64], n: u32, k: u32) -> u32
         return OUT_OF_LIMITS;
     }
     if within_limits(map, n) {
-        match map_search::search(map, 0, n, k) {
-            Found::At(start) => start,
-            Found::Nothing => NO_FIT,
-        }
+        map_search::search(map, 0, n, k).unwrap_or(NO_FIT)
     } else {
         OUT_OF_LIMITS
     }

@@ -6,7 +6,6 @@ ghost use Rattle.std.specs.Prelude.{◌≡◌};
 ghost use Rattle.bench_placed.specs.Answers.{placed_searched};
 
 use bench_map::{NO_FIT, OUT_OF_LIMITS, within_limits};
-use map_blocks::Found;
 
 // The start of the least fit for k within the figures from, before and step.
 #[unsafe(no_mangle)]
@@ -30,10 +29,7 @@ pub extern "C" fn map_bench_search_placed(
         return OUT_OF_LIMITS;
     }
     if within_limits(map, n) {
-        match map_search_placed::search_placed(map, from, before, step, k) {
-            Found::At(start) => start,
-            Found::Nothing => NO_FIT,
-        }
+        map_search_placed::search_placed(map, from, before, step, k).unwrap_or(NO_FIT)
     } else {
         OUT_OF_LIMITS
     }

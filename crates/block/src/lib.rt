@@ -14,7 +14,8 @@ pub const BLOCK: usize = block_seals::BLOCK;
 
 pub const PAYLOAD: usize = block_seals::PAYLOAD;
 
-// What `seal` and `check` give for a slice of the wrong length: row 3 of document 01's table of refusals.
+// What `seal` and `check` give for a slice of the wrong length: row 3 of document 01's table of refusals. C is
+// given its number.
 const WRONG_LENGTH: u32 = 3;
 
 // Writes the sealed block of a sheet, a place and a payload, and gives 0.

@@ -7,7 +7,7 @@ use native.Mathlib.Numerals.{add-one}
 use native.Mathlib.Nat.{mod-add-mod, add-mod-mod, mod-lt}
 use native.Mathlib.Omega.{arith}
 use lib.Dec.{lit<}
-use lib.ListN.{length, get_or, drop}
+use lib.ListN.{length, get_or, drop, drop_of_length-le}
 use lib.Seq.{drop-cons}
 use Rattle.block_seals.specs.Sealed.{sums}
 
@@ -38,6 +38,16 @@ two_bytes even odd evens odds x y i s h ex ey =
     ((b + (a + get_or s i 0) + (a + get_or s i 0 + get_or s (i + 1) 0)) % 65521) (drop n s)) ei
     ∙ one_byte (a + get_or s i 0) (b + (a + get_or s i 0)) (i + 1) s h
     ∙ one_byte a b i s (omega arith)
+
+-- after all 504 bytes
+pub all_bytes : (even odd evens odds i : ℕ) (s : List ℕ) → length s ≡ 504 → i ≡ 504
+    → sums ((1 + even + odd) % 65521) ((i + 2 * (evens + odds + even) + odd) % 65521) (drop i s) ≡ sums 1 0 s
+    → ((1 + even + odd) % 65521 ≡ (sums 1 0 s).0) × ((504 + 2 * (evens + odds + even) + odd) % 65521 ≡ (sums 1 0 s).1)
+unfolding sums
+all_bytes even odd evens odds i s h e so_far =
+    let over : drop i s ≡ [] = drop_of_length-le s {i = i} (omega arith) in
+    let all = rw (over, e) at so_far in
+    (ap (λ (p : ℕ × ℕ). p.0) all, ap (λ (p : ℕ × ℕ). p.1) all)
 
 -- both sums stay below 65,521
 pub sums_below : (a b : ℕ) (xs : List ℕ) → a < 65521 → b < 65521 → ((sums a b xs).0 < 65521) × ((sums a b xs).1 < 65521)

@@ -2,5 +2,4 @@
 pub mod Checksum
 pub mod Blank
 pub mod Sealed
-pub mod Tests
 pub mod Sealing

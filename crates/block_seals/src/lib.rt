@@ -3,10 +3,10 @@
 // One whole block: bytes 0 to 3 the sheet number, 4 to 7 the place, 8 to 503 the payload, 504 to 507 A, 508 to 511 B.
 #![tactic(auto)]
 
-ghost use Rattle.std.specs.Prelude.{◌≡◌, ◌+◌, ◌*◌, ◌≤◌, length};
+ghost use Rattle.std.specs.Prelude.{◌≡◌, ◌+◌, ◌*◌, length};
 ghost use Rattle.block_seals.specs.Sealed.{sums, check_holds, blank, sound, front, sealed};
 
-use block_bytes::{copy, get4, put4};
+use block_bytes::{get4, put4};
 
 // Bytes of a block and of a payload.
 pub const BLOCK: usize = 512;
@@ -22,13 +22,6 @@ pub struct Sums {
     pub b: u32,
 }
 
-// A byte as a summand.
-fn wide(x: u8) -> u32
-    ensures { (result ≡ x) × (result ≤ 255) }
-{
-    x as u32
-}
-
 // The sums over the first 504 bytes of a block, reduced once, at the end, as all of it fits 32 bits. The bytes at even
 // and at odd places are summed side by side, so that an addition need not wait for the one before it: after i bytes A
 // is 1 + even + odd, and B is i + 2 · (evens + odds + even) + odd.
@@ -40,13 +33,11 @@ pub fn sums_of(s: &[u8]) -> Sums
     let mut odd: u32 = 0;
     let mut evens: u32 = 0;
     let mut odds: u32 = 0;
-    let mut i = 0;
-    while i < s.len() {
+    for i in (0..s.len()).step_by(2) {
         evens += even;
         odds += odd;
-        even += wide(s[i]);
-        odd += wide(s[i + 1]);
-        i += 2;
+        even += u32::from(s[i]);
+        odd += u32::from(s[i + 1]);
     }
     Sums {
         a: (1 + even + odd) % MODULUS,
@@ -55,44 +46,31 @@ pub fn sums_of(s: &[u8]) -> Sums
 }
 
 // Whether the stored A and B are the sums of the first 504 bytes.
+#[tactic(auto, unfolding(crate::specs::Sealed::check_holds))]
 pub fn check_holds(block: &[u8]) -> bool
     requires { length block.now ≡ 512 }
     ensures { result ≡ check_holds block.now }
 {
     let s = sums_of(&block[0..504]);
-    if get4(block, 504) != s.a {
-        return false;
-    }
-    get4(block, 508) == s.b
+    get4(block, 504) == s.a && get4(block, 508) == s.b
 }
 
-// Whether all bytes of a block are 0. The loop has no way out before its end, so that the compiler reads 16 bytes at a
-// time: quicker than stopping at the first byte that is not 0, but for blocks that start with one.
+// Whether all bytes of a block are 0. A fold has no way out before its end, so that the compiler reads 16 bytes at a
+// time: quicker than `all`, which stops at the first byte that is not 0, but for blocks that start with one.
 pub fn is_blank(block: &[u8]) -> bool
     requires { length block.now ≡ 512 }
     ensures { result ≡ blank block.now }
 {
-    let mut all: u8 = 0;
-    let mut i = 0;
-    while i < BLOCK {
-        all |= block[i];
-        i += 1;
-    }
-    all == 0
+    block.iter().fold(0, |all, byte| all | *byte) == 0
 }
 
 // Whether a block carries a sheet and a place and its check holds.
+#[tactic(auto, unfolding(crate::specs::Sealed::sound))]
 pub fn is_sound(block: &[u8], sheet: u32, place: u32) -> bool
     requires { length block.now ≡ 512 }
     ensures { result ≡ sound sheet place block.now }
 {
-    if get4(block, 0) != sheet {
-        return false;
-    }
-    if get4(block, 4) != place {
-        return false;
-    }
-    check_holds(block)
+    get4(block, 0) == sheet && get4(block, 4) == place && check_holds(block)
 }
 
 // Writes the first 504 bytes of the sealed block.
@@ -102,7 +80,7 @@ fn write_front(first: &mut [u8], sheet: u32, place: u32, payload: &[u8])
 {
     put4(&mut first[0..4], sheet);
     put4(&mut first[4..8], place);
-    copy(&mut first[8..504], payload);
+    first[8..504].copy_from_slice(payload);
 }
 
 // Writes the sealed block of a sheet, a place and a payload.

@@ -6,13 +6,15 @@ use mathlib.Core.Logic.{⊎_elim}
 use mathlib.Core.List.{List, [], ◌∷◌, ◌++◌}
 use Prim.Native.Nat.{ℕ, zero, suc, ◌+◌, ◌*◌, ◌-◌, ◌<◌, ◌≤◌}
 use native.Mathlib.Nat.{eq-or-lt_of_le}
-use native.Mathlib.Numerals.{add-one}
 use native.Mathlib.Omega.{arith}
 use lib.Dec.{ltb}
 use lib.ListN.{length, take, drop, replicate, length-take, length-drop}
 use lib.Seq.{take_at, drop_at, take-take, drop-drop, length-take-le}
 use borrow.Author.Tests.{ltb-true, ltb-false}
 use borrow.Rule.Slice.PartMut.{mid_of, put_mid, mid_len, same_len_mid, take_put, drop_put}
+use Rattle.std.proofs.lemmas.List.{length-replicate, replicate-append-replicate}
+use Rattle.block_bytes.specs.Replaced.{replaced}
+use Rattle.block_bytes.proofs.Replaced.{replaced_none, replaced_more}
 use Rattle.block_seals.specs.Sealed.{payload_of}
 use Rattle.blocks_of_card.specs.Card.{block_of, with_block, zeroed}
 
@@ -136,8 +138,35 @@ zeroed_after card b (suc k) d h q =
     other_block (zeroed card b k) (replicate 512 0) (b + k) (omega arith) refl d (λ e. omega arith)
     ∙ zeroed_after card b k d (omega arith) (omega arith)
 
--- one block more is filled
-pub zeroed_more : (card next orig : List ℕ) (b i : ℕ) → card ≡ zeroed orig b i
-    → next ≡ with_block card (b + i) (replicate 512 0) → next ≡ zeroed orig b (i + 1)
+-- a block replaced, as bytes replaced
+pub with_block_replaced : (card ys : List ℕ) (b : ℕ) → length ys ≡ 512 → with_block card b ys ≡ replaced card (512 * b) ys
+unfolding with_block replaced
+with_block_replaced card ys b e = rw e
+
+zeros_length : (n : ℕ) → length (replicate {A = ℕ} n 0) ≡ n
+zeros_length n = length-replicate n 0
+
+-- so are k blocks, all at once
+zeroed_replaced : (card : List ℕ) (b k : ℕ) → 512 * (b + k) ≤ length card
+    → zeroed card b k ≡ replaced card (512 * b) (replicate (512 * k) 0)
 unfolding zeroed
-zeroed_more card next orig b i e en = rw (en, e, add-one)
+zeroed_replaced card b zero h = sym (replaced_none card (512 * b))
+zeroed_replaced card b (suc k) h =
+    let zeros : List ℕ = replicate (512 * k) 0 in
+    let inside : 512 * b + length zeros ≤ length card = omega (arith, zeros_length (512 * k)) in
+    let at : 512 * (b + k) ≡ 512 * b + length zeros = omega (arith, zeros_length (512 * k)) in
+    let more : 512 * k + 512 ≡ 512 * suc k = omega arith in
+    with_block_replaced (zeroed card b k) (replicate 512 0) (b + k) refl
+    ∙ ap (λ (l : List ℕ). replaced l (512 * (b + k)) (replicate 512 0)) (zeroed_replaced card b k (omega arith))
+    ∙ ap (λ (n : ℕ). replaced (replaced card (512 * b) zeros) n (replicate 512 0)) at
+    ∙ replaced_more card (512 * b) zeros inside (replicate 512 0)
+    ∙ ap (replaced card (512 * b)) (replicate-append-replicate (512 * k) 512 0
+    ∙ ap (λ (n : ℕ). replicate n 0) more)
+
+pub filled : (card ys : List ℕ) (b k : ℕ) → 512 * (b + k) ≤ length card → ys ≡ replicate (512 * k) 0
+    → put_mid (512 * b) (512 * b + 512 * k - 512 * b) card ys ≡ zeroed card b k
+unfolding replaced
+filled card ys b k h e =
+    let zeros : List ℕ = replicate (512 * k) 0 in
+    let size : 512 * b + 512 * k - 512 * b ≡ length zeros = omega (arith, zeros_length (512 * k)) in
+    rw (e, size) (sym (zeroed_replaced card b k h))

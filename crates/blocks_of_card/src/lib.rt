@@ -1,8 +1,9 @@
 // The blocks of a card (document 01, "Shape, catalogue, blocks"): block b of a lent card is its bytes 512·b to 512·b + 511,
-// and the caller sees that they lie inside the card.
+// and the caller sees that they lie inside the card: a clause, since the card is lent to be read or to be changed, and b is any
+// number.
 #![tactic(auto)]
 
-ghost use Rattle.std.specs.Prelude.{◌≡◌, ◌+◌, ◌*◌, ◌≤◌, length, replicate};
+ghost use Rattle.std.specs.Prelude.{◌≡◌, ◌+◌, ◌*◌, ◌≤◌, length};
 ghost use Rattle.block_seals.specs.Sealed.{sealed, blank, sound, payload_of};
 ghost use Rattle.blocks_of_card.specs.Card.{block_of, with_block, zeroed};
 
@@ -21,28 +22,14 @@ pub fn write_block(card: &mut [u8], b: u32, sheet: u32, place: u32, payload: &[u
     block_seals::write_sealed(&mut card[start..end], sheet, place, payload);
 }
 
-// Fills block b with zeros.
-fn zero_block(card: &mut [u8], b: usize)
-    requires { 512 * b + 512 ≤ length card.old }
-    ensures { card.new ≡ with_block card.old b (replicate 512 0) }
-{
-    let start = BLOCK * b;
-    let end = start + BLOCK;
-    block_bytes::zero(&mut card[start..end]);
-}
-
-// Fills k blocks from b on with zeros. The compiler makes a single fill of it.
+// Fills k blocks from b on with zeros.
 pub fn zero_blocks(card: &mut [u8], b: u32, k: u32)
     requires { 512 * (b + k) ≤ length card.old }
     ensures { card.new ≡ zeroed card.old b k }
 {
-    let first = b as usize;
-    let count = k as usize;
-    let mut i = 0;
-    while i < count {
-        zero_block(card, first + i);
-        i += 1;
-    }
+    let start = BLOCK * (b as usize);
+    let end = start + BLOCK * (k as usize);
+    card[start..end].fill(0);
 }
 
 // Whether block b is blank.
@@ -72,5 +59,5 @@ pub fn copy_payload(card: &[u8], b: u32, buffer: &mut [u8])
 {
     let start = BLOCK * (b as usize) + PAYLOAD_START;
     let end = start + PAYLOAD;
-    block_bytes::copy(buffer, &card[start..end]);
+    buffer.copy_from_slice(&card[start..end]);
 }

@@ -14,7 +14,7 @@ use prog.Routine.{Routine}
 use Rattle.block.proofs.Clauses.{Ensures, Asks, AsksNothing}
 use Rattle.calendar.specs.Calendar.{is_date, dated_of}
 use Rattle.calendar.specs.Days.{day_of_date, day_of_number}
-use Rattle.calendar.specs.Term.{term_of, in_term, term_answer, with_term}
+use Rattle.calendar.specs.Term.{term_of, in_term, number_in, term_answer, with_term}
 use Rattle.calendar.specs.contracts.is_date as is-date-function
 use Rattle.calendar.specs.contracts.day_number as day-number-function
 use Rattle.calendar.specs.contracts.days.day_of_date as day-of-date-function
@@ -45,7 +45,7 @@ module _ {M : Type 1} {𝓤 : Ura M} (𝓛 : Logic 𝓤) (mem : Memory → SProp
   in_term_contract κs a r t g = refl
 
   pub write_term_contract : Ensures 𝓤 write-term-function.ended (write-term-function.clauses 𝓛 mem run) (λ κs a r t.
-      (r ≡ term_answer a.0.now) × (t.0.now ≡ with_term a.0.now a.1.0 a.1.1.0))
+      (number_in r ≡ term_answer a.0.now) × (t.0.now ≡ with_term a.0.now a.1.0 a.1.1.0))
   write_term_contract κs a r t g = refl
 
   pub is_date_asks_nothing : AsksNothing 𝓤 is-date-function.ended (is-date-function.clauses 𝓛 mem run)

@@ -1,5 +1,6 @@
 -- The formulas by which the code finds a month's length, the days before it, and those before a year.
 -- Assumes nothing.
+use Rattle.std.specs.Prelude.{Option, Some, None}
 use mathlib.Core.Path.{◌≡◌, refl, sym, ap, ◌∙◌}
 use mathlib.Core.Bool.{Bool, true, false, cond}
 use Prim.Native.Nat.{ℕ, zero, suc, ◌+◌, ◌*◌, ◌-◌, ◌/◌, ◌%◌, ◌≤◌, ◌<◌}
@@ -7,8 +8,6 @@ use native.Mathlib.Omega.{arith}
 use lib.Dec.{eqb}
 use borrow.Author.Tests.{eqb-true, eqb-false}
 use Rattle.calendar.specs.Calendar.{leap_day, month_length, sum_of, before_month, before_year, is_date, day_of, dated_of}
-use Rattle.calendar.specs.declared.Dated.{Dated}
-use Rattle.calendar.specs.declared.Dated.TheVariants.{Day, NoSuchDate}
 use Rattle.calendar.proofs.Dates.{twelve}
 
 module _ (leap m : ℕ) (lo : 1 ≤ m) (hi : m ≤ 12) where
@@ -56,29 +55,29 @@ year_days y = sym (years (y - 2000))
 
 -- what `day_number` answers
 pub day_told : (y m d b : ℕ) → is_date y m d ≡ true → b ≡ before_month (leap_day y) m
-    → Day (365 * (y - 2000) + (y - 2000 + 3) / 4 + b + (d - 1)) ≡ dated_of y m d
+    → Some (365 * (y - 2000) + (y - 2000 + 3) / 4 + b + (d - 1)) ≡ dated_of y m d
 unfolding dated_of day_of
 day_told y m d b e eb = rw (e, eb, year_days y)
 
-pub no_date : (y m d : ℕ) → is_date y m d ≡ false → NoSuchDate ≡ dated_of y m d
+pub no_date : (y m d : ℕ) → is_date y m d ≡ false → None ≡ dated_of y m d
 unfolding dated_of
 no_date y m d e = rw e
 
 -- and what its answer says of the date
-module _ (y m d : ℕ) (r : Dated) (e : r ≡ dated_of y m d) where
-  pub dated : (number : ℕ) → r ≡ Day number → (is_date y m d ≡ true) × (number ≡ day_of y m d)
+module _ (y m d : ℕ) (r : Option ℕ) (e : r ≡ dated_of y m d) where
+  pub dated : (number : ℕ) → r ≡ Some number → (is_date y m d ≡ true) × (number ≡ day_of y m d)
   unfolding dated_of
   dated number h = by (is_date y m d) refl (sym h ∙ e)
     where
-      by : (t : Bool) → is_date y m d ≡ t → Day number ≡ cond t (Day (day_of y m d)) NoSuchDate
+      by : (t : Bool) → is_date y m d ≡ t → Some number ≡ cond t (Some (day_of y m d)) None
           → (is_date y m d ≡ true) × (number ≡ day_of y m d)
       by true p k = (p, (cc))
       by false p k = absurd (let z : ◌≡◌ {A = ℕ} 0 1 = cc in omega arith)
 
-  pub undated : r ≡ NoSuchDate → is_date y m d ≡ false
+  pub undated : r ≡ None → is_date y m d ≡ false
   unfolding dated_of
   undated h = by (is_date y m d) refl (sym h ∙ e)
     where
-      by : (t : Bool) → is_date y m d ≡ t → NoSuchDate ≡ cond t (Day (day_of y m d)) NoSuchDate → is_date y m d ≡ false
+      by : (t : Bool) → is_date y m d ≡ t → None ≡ cond t (Some (day_of y m d)) None → is_date y m d ≡ false
       by true p k = absurd (let z : ◌≡◌ {A = ℕ} 0 1 = cc in omega arith)
       by false p k = p

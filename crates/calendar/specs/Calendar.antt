@@ -1,9 +1,8 @@
 -- Dates and their day numbers (document 02, request (m)): "days since 1 January 2000 (day 0), Gregorian; dates run up to 31
 -- December 2099". A day number is counted: the years before, the months before, the days before.
 -- Assumes nothing.
+use Rattle.std.specs.Prelude.{Option, Some, None}
 use Rattle.std.specs.Prelude.{◌≡◌, ◌⊎◌, Bool, cond, ◌&&◌, [], ◌∷◌, ℕ, zero, suc, ◌+◌, ◌-◌, ◌%◌, ◌<◌, eqb, leb, ltb, get_or}
-use Rattle.calendar.specs.declared.Dated.{Dated}
-use Rattle.calendar.specs.declared.Dated.TheVariants.{Day, NoSuchDate}
 
 -- "Years divisible by 4 in this span are leap years": the leap day counts 1 in them, else 0
 unfoldable pub leap_day : ℕ → ℕ
@@ -38,8 +37,8 @@ unfoldable pub is_date : ℕ → ℕ → ℕ → Bool
 is_date year month day = in_span 2000 2099 year && (in_span 1 12 month && in_span 1 (month_length (leap_day year) month) day)
 
 -- what `day_number` answers
-unfoldable pub dated_of : ℕ → ℕ → ℕ → Dated
-dated_of year month day = cond (is_date year month day) (Day (day_of year month day)) NoSuchDate
+unfoldable pub dated_of : ℕ → ℕ → ℕ → Option ℕ
+dated_of year month day = cond (is_date year month day) (Some (day_of year month day)) None
 
 -- the three numbers that a call is given for a date, and what is said of them
 pub record Date : Type 0 where

@@ -3,7 +3,7 @@ ghost use Rattle.std.specs.Prelude.{◌≡◌, ◌+◌, ◌≤◌, ◌<◌};
 ghost use Rattle.calendar.specs.Calendar.{before_month, before_year};
 ghost use Rattle.calendar.specs.Days.{day_of_date, day_of_number, no_day};
 
-use crate::{Dated, before_month, day_number, leap_day};
+use crate::{before_month, day_number, leap_day};
 
 // A day: 0 or the refusal's number, the days since 1 January 2000, and the date. With a refusal all but its number is 0.
 #[repr(C)]
@@ -67,14 +67,14 @@ pub fn day_of_date(year: u32, month: u32, day: u32) -> DayReply
     ensures { result ≡ day_of_date year month day }
 {
     match day_number(year, month, day) {
-        Dated::Day(days) => DayReply {
+        Some(days) => DayReply {
             number: 0,
             days,
             year,
             month,
             day,
         },
-        Dated::NoSuchDate => no_day(),
+        None => no_day(),
     }
 }
 

@@ -7,33 +7,34 @@ pub mod days;
 
 ghost use Rattle.std.specs.Prelude.{◌≡◌, ◌≤◌, length};
 ghost use Rattle.calendar.specs.Calendar.{leap_day, month_length, before_month, in_span, is_date, dated_of};
-ghost use Rattle.calendar.specs.Term.{term_of, in_term, term_answer, with_term};
+ghost use Rattle.calendar.specs.Term.{term_of, in_term, wrong_length, number_in, term_answer, with_term};
 
 use block_bytes::{get4, put4};
 use block_seals::PAYLOAD;
 
-// What a date is: a number of days since 1 January 2000, or no date between the two ends.
-#[derive(Clone, Copy)]
-pub enum Dated {
-    Day(u32),
-    NoSuchDate,
-}
-
 // The refusal of a payload of another length.
-const WRONG_LENGTH: u32 = 3;
+#[derive(Clone, Copy, PartialEq, Eq, Debug)]
+pub struct WrongLength;
+
+impl WrongLength {
+    // The row of the refusal.
+    pub fn number(self) -> u32
+        ensures { result ≡ wrong_length }
+    {
+        3
+    }
+}
 
 const FIRST_YEAR: u32 = 2000;
 
 const LAST_YEAR: u32 = 2099;
 
-// 1 in a leap year, else 0.
+// How many leap days a year has: 1 or 0, as a summand.
+#[tactic(auto, unfolding(crate::specs::Calendar::leap_day))]
 fn leap_day(year: u32) -> u32
     ensures { (result ≡ leap_day year) × (result ≤ 1) }
 {
-    if year % 4 == 0 {
-        return 1;
-    }
-    0
+    u32::from(year % 4 == 0)
 }
 
 // Days of a month of a year with that leap day.
@@ -59,38 +60,33 @@ fn before_month(leap: u32, month: u32) -> u32
 }
 
 // Whether x is low to high.
+#[tactic(auto, unfolding(crate::specs::Calendar::in_span))]
 fn in_span(x: u32, low: u32, high: u32) -> bool
     ensures { result ≡ in_span low high x }
 {
-    if low <= x {
-        return x <= high;
-    }
-    false
+    (low..=high).contains(&x)
 }
 
 // Whether there is such a date, for any numbers.
 pub fn is_date(year: u32, month: u32, day: u32) -> bool
     ensures { result ≡ is_date year month day }
 {
-    if in_span(year, FIRST_YEAR, LAST_YEAR) {
-        if in_span(month, 1, 12) {
-            return in_span(day, 1, month_length(leap_day(year), month));
-        }
-    }
-    false
+    in_span(year, FIRST_YEAR, LAST_YEAR)
+        && in_span(month, 1, 12)
+        && in_span(day, 1, month_length(leap_day(year), month))
 }
 
 // The number of a date's day.
-pub fn day_number(year: u32, month: u32, day: u32) -> Dated
+pub fn day_number(year: u32, month: u32, day: u32) -> Option<u32>
     ensures { result ≡ dated_of year month day }
 {
     if is_date(year, month, day) {
         let years = year - FIRST_YEAR;
         let leap = leap_day(year);
         let before = before_month(leap, month);
-        return Dated::Day(365 * years + (years + 3) / 4 + before + (day - 1));
+        return Some(365 * years + (years + 3) / 4 + before + (day - 1));
     }
-    Dated::NoSuchDate
+    None
 }
 
 // Whether a day lies in the term that a payload starts with: first and last day in four bytes each, the high byte first.
@@ -101,15 +97,15 @@ pub fn in_term(payload: &[u8], day: u32) -> bool
     in_span(day, get4(payload, 0), get4(payload, 4))
 }
 
-// Writes the two days that a payload starts with: those eight bytes and no others. Gives 0 or the number of a refusal.
-pub fn write_term(payload: &mut [u8], first: u32, last: u32) -> u32
-    ensures { (result ≡ term_answer payload.old)
+// Writes the two days that a payload starts with: those eight bytes and no others.
+pub fn write_term(payload: &mut [u8], first: u32, last: u32) -> Result<(), WrongLength>
+    ensures { (number_in result ≡ term_answer payload.old)
         × (payload.new ≡ with_term payload.old first last) }
 {
     if payload.len() != PAYLOAD {
-        return WRONG_LENGTH;
+        return Err(WrongLength);
     }
     put4(&mut payload[0..4], first);
     put4(&mut payload[4..8], last);
-    0
+    Ok(())
 }

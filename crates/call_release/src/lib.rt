@@ -2,51 +2,47 @@
 #![tactic(auto)]
 
 ghost use Rattle.std.specs.Prelude.{◌≡◌};
-ghost use Rattle.refusals.specs.Lent.{lent_beside, called_by, no_card};
+ghost use Rattle.catalogue_standings.specs.Refusals.{Follows};
+ghost use Rattle.refusals.specs.Lent.{lent_for, no_card};
 ghost use Rattle.roles.specs.Roles as names;
-ghost use Rattle.roles.specs.Roles.{turned_away};
-ghost use Rattle.refusals.specs.Effects.{release_out, release_map, release_summary};
+ghost use Rattle.refusals.specs.Effects.{release_verdict, release_out, release_map, release_summary};
 
 use catalogue::{ABSENT, Entry};
-use catalogue_standings::opening::{open_sheet, refused_row};
-use catalogue_standings::{Answer, Opened, Standing};
+use catalogue_standings::opening::Asked;
+use catalogue_standings::{Answer, Refusal, Standing};
 use map_blocks::run::{FREE, mark};
-use refusals::{Out, follow, guide_fits, refusal};
-use roles::{TURNED_AWAY, turned_away};
+use refusals::{Out, begin, follow, refusal};
+use roles::Call;
 
-// Of one who may make the call: the rows behind 21.
-fn release_allowed(
-    n: u32,
-    free: u32,
-    map: &mut [u64],
-    guided: bool,
-    summary: &mut [u32],
-    c: usize,
-    entry: Entry,
-    sheet: u32,
-) -> Out
-    ensures { let q = lent_beside guided summary.old n free map.old no_card c entry sheet in
+fn allowed(asked: Asked, map: &[u64], guided: bool, summary: &[u32]) -> Result<(), Refusal>
+    ensures { let q = lent_for asked names.release guided summary.now map.now no_card in
+        Follows (release_verdict q) result }
+{
+    let stands = begin(asked, Call::Release, map, guided, summary.len(), None)?;
+    if let Standing::Absent = stands {
+        return Err(Refusal::IsAbsent);
+    }
+    if asked.n - asked.free < asked.entry.length {
+        return Err(Refusal::Damaged);
+    }
+    Ok(())
+}
+
+// It is inline, so that a call without a summary makes no test of one.
+#[inline(always)]
+pub fn release(asked: Asked, map: &mut [u64], guided: bool, summary: &mut [u32]) -> Out
+    ensures { let q = lent_for asked names.release guided summary.old map.old no_card in
         (result ≡ release_out q) × (map.new ≡ release_map q) × (summary.new ≡ release_summary q) }
 {
-    if !guide_fits(guided, map.len(), summary.len()) {
-        return refusal(free, entry, 1);
+    if let Err(why) = allowed(asked, map, guided, summary) {
+        return refusal(asked.free, asked.entry, why);
     }
-    let opened = open_sheet(n, free, map, c, sheet, entry);
-    let Opened::Stands(stands) = opened else {
-        return refusal(free, entry, refused_row(opened));
-    };
-    if let Standing::Absent = stands {
-        return refusal(free, entry, 5);
-    }
-    let start = entry.start;
-    let blocks = entry.length;
-    if n - free < blocks {
-        return refusal(free, entry, 4);
-    }
+    let start = asked.entry.start;
+    let blocks = asked.entry.length;
     mark(map, start, blocks, FREE);
-    follow(guided, map, n, summary, start, blocks);
+    follow(guided, map, asked.n, summary, start, blocks);
     Out {
-        free: free + blocks,
+        free: asked.free + blocks,
         entry: Entry {
             mark: ABSENT,
             start: 0,
@@ -54,25 +50,4 @@ fn release_allowed(
         },
         answer: Answer::Done,
     }
-}
-
-pub fn release(
-    role: u32,
-    n: u32,
-    free: u32,
-    map: &mut [u64],
-    guided: bool,
-    summary: &mut [u32],
-    c: usize,
-    entry: Entry,
-    sheet: u32,
-) -> Out
-    ensures { let q = called_by (turned_away role names.release)
-        (lent_beside guided summary.old n free map.old no_card c entry sheet) in
-        (result ≡ release_out q) × (map.new ≡ release_map q) × (summary.new ≡ release_summary q) }
-{
-    if turned_away(role, roles::RELEASE) {
-        return refusal(free, entry, TURNED_AWAY);
-    }
-    release_allowed(n, free, map, guided, summary, c, entry, sheet)
 }

@@ -6,9 +6,9 @@ ghost use Rattle.roles.specs.Roles as names;
 ghost use Rattle.roles.specs.Roles.{turned_away};
 ghost use Rattle.call_summary.specs.Answers.{summary_fits, build_answer, built_summary, check_answer};
 
-use catalogue_standings::Answer;
 use catalogue_standings::opening::shape_fits;
-use roles::{TURNED_AWAY, turned_away};
+use catalogue_standings::{Answer, Refusal};
+use roles::Call;
 use summary::{check, summary_len};
 use summary_write::build;
 
@@ -28,7 +28,7 @@ pub fn rebuild_summary(n: u32, free: u32, map: &[u64], summary: &mut [u32]) -> A
         × (summary.new ≡ built_summary false n free map.now summary.old) }
 {
     if !summary_fits(n, free, map.len(), summary.len()) {
-        return Answer::Refused(1);
+        return Refusal::Misfit.answer();
     }
     build(map, n, summary);
     Answer::Done
@@ -40,8 +40,8 @@ pub fn build_summary(role: u32, n: u32, free: u32, map: &[u64], summary: &mut [u
         (result ≡ build_answer turned n free map.now summary.old)
         × (summary.new ≡ built_summary turned n free map.now summary.old) }
 {
-    if turned_away(role, roles::BUILD_SUMMARY) {
-        return Answer::Refused(TURNED_AWAY);
+    if Call::BuildSummary.turned_away(role) {
+        return Refusal::TurnedAway.answer();
     }
     rebuild_summary(n, free, map, summary)
 }
@@ -51,11 +51,11 @@ pub fn check_summary(role: u32, n: u32, free: u32, map: &[u64], summary: &[u32])
     ensures { let turned = turned_away role names.check_summary in
         result ≡ check_answer turned n free map.now summary.now }
 {
-    if turned_away(role, roles::CHECK_SUMMARY) {
-        return Answer::Refused(TURNED_AWAY);
+    if Call::CheckSummary.turned_away(role) {
+        return Refusal::TurnedAway.answer();
     }
     if !summary_fits(n, free, map.len(), summary.len()) {
-        return Answer::Refused(1);
+        return Refusal::Misfit.answer();
     }
     if check(map, n, summary) {
         return Answer::Own(1);

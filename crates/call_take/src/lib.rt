@@ -40,6 +40,8 @@ pub fn occupy(
     zero_blocks(card, start, k);
 }
 
+// It is inline, so that a call without a summary makes no test of one.
+#[inline(always)]
 pub fn take(
     n: u32,
     free: u32,

@@ -1,7 +1,7 @@
--- The contracts of the public methods of `Shape`, of the methods themselves: what each ensures is the proposition of
--- specs/Contracts.antt that stands here, by computation (`..-contract`), and it asks nothing of its caller
--- (`..-asks-nothing`). So a clause of the source that is made weaker, or one that asks something, is refused here. That each
--- method meets its contract is what the check of this crate shows.
+-- The contracts of the public methods of `Shape`, of the methods themselves: what each ensures is the proposition that stands
+-- here, by computation (`.._contract`), and it asks nothing of its caller (`.._asks_nothing`). So a clause of the source that
+-- is made weaker, or one that asks something, is refused here. That each method meets its contract is what the check of this
+-- crate shows.
 -- Assumes nothing.
 use mathlib.Core.Path.{◌≡◌, refl}
 use mathlib.Core.Bool.{true}

@@ -20,7 +20,7 @@ use Rattle.image.specs.Effects as images
 use Rattle.image.specs.Effects.{load_result}
 use Rattle.image.specs.Image.{image_of, state_in}
 use Rattle.image.specs.Table.{save_verdict, load_verdict}
-use Rattle.image.specs.declared.Loaded.{Loaded}
+use Rattle.image.specs.Effects.{Answered}
 use Rattle.image.proofs.Journey.{Words}
 use Rattle.image.proofs.ReturnJourney as journey
 use Rattle.image.proofs.Verdicts.{save_accepted, load_accepted}
@@ -43,7 +43,7 @@ done_save shape number d = by (eqb number 0) refl d
     by true e h = eqb-true number 0 e
     by false e h = absurd (never_done h)
 
-done_load : (shape : Shape) (given : Loaded) → is_done (load_outcome_by shape given).answer ≡ true → given.number ≡ 0
+done_load : (shape : Shape) (given : Answered) → is_done (load_outcome_by shape given).answer ≡ true → given.number ≡ 0
 done_load shape given d = by (eqb given.number 0) refl d
   where
     by : (b : Bool) → eqb given.number 0 ≡ b
@@ -79,7 +79,7 @@ module _ (turned : Bool) (shape other : Shape) (map : List ℕ) (entries : List 
 -- what a load gives, and the image that it was
 module _ (turned : Bool) (shape : Shape) (image map : List ℕ) (entries : List Entry) (scratch : List ℕ) (bytes : Bytes image)
   where
-    abbrev given : Loaded
+    abbrev given : Answered
     given = load_result turned image map entries scratch
 
     abbrev handed : Outcome

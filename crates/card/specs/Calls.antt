@@ -7,6 +7,7 @@ use Rattle.calendar.specs.Calendar.{Date}
 use Rattle.catalogue.specs.Entries.{entry_at, cleared_if}
 use Rattle.catalogue.specs.declared.Entry.{Entry}
 use Rattle.catalogue_standings.specs.declared.Answer.{Answer}
+use Rattle.catalogue_standings.specs.declared.opening.Asked.{Asked}
 use Rattle.catalogue_standings.specs.declared.Answer.TheVariants.{Done, Start, Reads, Counted, Own, Blank, Refused}
 use Rattle.call_search.specs.Answers as whole
 use Rattle.call_summary.specs.Answers as summaries
@@ -18,9 +19,20 @@ use Rattle.refusals.specs.Effects as effects
 use Rattle.refusals.specs.declared.Out.{Out}
 use Rattle.image_soundness.specs.Sound.{State}
 use Rattle.image.specs.Effects as images
-use Rattle.image.specs.declared.Loaded.{Loaded}
+use Rattle.image.specs.Effects.{Answered}
 use Rattle.card.specs.declared.Outcome.{Outcome}
 use Rattle.card.specs.declared.Shape.{Shape}
+
+-- What a call on a sheet is asked.
+abbrev pub asked_by : Shape → ℕ → List Entry → ℕ → Asked
+asked_by shape role entries sheet = record {
+  role = role;
+  n = shape.blocks;
+  free = shape.free;
+  sheets = length entries;
+  sheet = sheet;
+  entry = entry_at entries sheet;
+}
 
 -- The shape as it came, and an answer.
 abbrev pub told : Shape → Answer → Outcome
@@ -266,7 +278,7 @@ module _ (turned : Bool) (shape : Shape) (map : List ℕ) (entries : List Entry)
 -- ---- load
 
 -- Load reads nothing of the shape it takes: it hands back the image's n and free count, or, refused, the shape as it came.
-abbrev pub load_outcome_by : Shape → Loaded → Outcome
+abbrev pub load_outcome_by : Shape → Answered → Outcome
 load_outcome_by shape loaded =
     cond (eqb loaded.number 0) (told (record { blocks = loaded.blocks; free = loaded.free }) Done)
     (told shape (Refused loaded.number))

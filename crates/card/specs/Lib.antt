@@ -1,8 +1,6 @@
--- What the contracts of `card` cite: every public call and what it comes to; what a function ensures of that; and the cores.
+-- What the contracts of `card` cite: every public call and what it comes to; and what a function ensures of that.
 pub mod Calls
 pub mod Closings
-pub mod Cores
 pub mod Leaves
 pub mod Public
-pub mod Reserves
 pub mod Ends

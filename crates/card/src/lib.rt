@@ -1,25 +1,25 @@
 // The card: its shape, and every call as a method (document 01, "Shape, catalogue, blocks"): one for a sheet finds its entry,
-// leaves the rest to a core on that entry by value, and stores what it hands back. A refusal changes nothing lent but a
-// scratch. The methods are inner, they ask nobody's role: a program calls the functions of the crate role_calls (02 (n)). Here
-// stand those for a sheet, and search and survey; beside it the dated show, those for the whole card, and the forms with a
-// summary.
+// leaves the rest to the call on that entry by value, and stores what it hands back. A refusal changes nothing lent but a
+// scratch. Each takes the role of whoever calls (document 02 (n)). Here stand those for a sheet that take no blocks, and search
+// and survey; beside it those that take blocks, the dated show, those for the whole card, and the forms with a summary.
 #![tactic(auto)]
 
-mod cores;
 pub mod dated;
-mod guided;
-mod reserves;
+mod outcomes;
+pub mod reserves;
 pub mod whole;
 pub mod with_summary;
 
 ghost use Rattle.std.specs.Prelude.{true, ◌≡◌};
-ghost use Rattle.card.specs.Ends.{search_end, survey_end, reserve_end, reservePlacedEnd, offer_end, accept_end, grow_end};
+ghost use Rattle.card.specs.Calls.{asked_by};
+ghost use Rattle.card.specs.Ends.{search_end, survey_end};
 ghost use Rattle.card.specs.Ends.{putEnd, complete_end, pause_end, resume_end, release_end, showEnd, standing_end};
 ghost use Rattle.card.specs.Leaves.{itself, HandsBack, LeavesCard, LeavesEntries, LeavesBuffer, LeavesMapEntries};
-ghost use Rattle.card.specs.Leaves.{LeavesMapEntriesCard};
 
 use catalogue::Entry;
 use catalogue_standings::Answer;
+use catalogue_standings::opening::Asked;
+use outcomes::outcome_of;
 
 // n and the carried free count.
 #[repr(C)]
@@ -62,6 +62,21 @@ impl Shape {
         Self::SHEETS == 1024
     }
 
+    // What a call on a sheet is asked, with the entry by value.
+    fn asked(self, role: u32, catalogue: &[Entry], sheet: u32) -> Asked
+        ensures { result ≡ asked_by self role catalogue.now sheet }
+    {
+        let slot = catalogue::find(catalogue, sheet);
+        Asked {
+            role,
+            n: self.blocks,
+            free: self.free,
+            sheets: slot.count,
+            sheet,
+            entry: slot.entry,
+        }
+    }
+
     // The least fit for k.
     pub fn search(self, role: u32, map: &[u64], k: u32) -> Outcome
         ensures { HandsBack itself (search_end self role map.now k) result }
@@ -69,7 +84,7 @@ impl Shape {
         let answer = call_search::search(role, self.blocks, self.free, map, k);
         Outcome {
             shape: self,
-            answer: answer,
+            answer,
         }
     }
 
@@ -80,126 +95,8 @@ impl Shape {
         let answer = call_search::survey(role, self.blocks, self.free, map);
         Outcome {
             shape: self,
-            answer: answer,
+            answer,
         }
-    }
-
-    // Absent becomes Open at the least fit, with k blank places.
-    pub fn reserve(
-        self,
-        role: u32,
-        map: &mut [u64],
-        catalogue: &mut [Entry],
-        card: &mut [u8],
-        limits: &[u32; 8],
-        sheet: u32,
-        k: u32,
-    ) -> Outcome
-        ensures { LeavesMapEntriesCard itself (reserve_end self role map.old catalogue.old
-            card.old limits.now sheet k) result map.new catalogue.new
-            card.new }
-    {
-        let slot = catalogue::find(&*catalogue, sheet);
-        let held = catalogue_wings::held_by(&*catalogue, sheet);
-        let out = reserves::reserve_core(self, role, map, card, limits, slot, held, sheet, k);
-        let entry = cores::entry_of(out);
-        catalogue::store(catalogue, sheet, entry);
-        cores::outcome_of(self, out)
-    }
-
-    // The same at the least fit within three figures: it starts at or after `from`, ends at or before `before`, and starts on a
-    // multiple of `step` (document 02, request a).
-    pub fn reserve_placed(
-        self,
-        role: u32,
-        map: &mut [u64],
-        catalogue: &mut [Entry],
-        card: &mut [u8],
-        limits: &[u32; 8],
-        sheet: u32,
-        k: u32,
-        from: u32,
-        before: u32,
-        step: u32,
-    ) -> Outcome
-        ensures { LeavesMapEntriesCard itself (reservePlacedEnd self role map.old catalogue.old
-            card.old limits.now sheet k from before step) result map.new catalogue.new
-            card.new }
-    {
-        let slot = catalogue::find(&*catalogue, sheet);
-        let held = catalogue_wings::held_by(&*catalogue, sheet);
-        let out = reserves::reserve_placed_core(
-            self, role, map, card, limits, slot, held, sheet, k, from, before, step,
-        );
-        let entry = cores::entry_of(out);
-        catalogue::store(catalogue, sheet, entry);
-        cores::outcome_of(self, out)
-    }
-
-    // Answers where a plain reserve would start now, and the length; it changes nothing (document 02, request f).
-    pub fn offer(
-        self,
-        role: u32,
-        map: &[u64],
-        catalogue: &[Entry],
-        card: &[u8],
-        limits: &[u32; 8],
-        sheet: u32,
-        k: u32,
-    ) -> Outcome
-        ensures { HandsBack itself (offer_end self role map.now catalogue.now
-            card.now limits.now sheet k) result }
-    {
-        let slot = catalogue::find(catalogue, sheet);
-        let held = catalogue_wings::held_by(catalogue, sheet);
-        reserves::offer_core(self, role, map, card, limits, slot, held, sheet, k)
-    }
-
-    // Absent becomes Open at the start that is asked for, if the run there is all free (document 02, request f).
-    pub fn accept(
-        self,
-        role: u32,
-        map: &mut [u64],
-        catalogue: &mut [Entry],
-        card: &mut [u8],
-        limits: &[u32; 8],
-        sheet: u32,
-        start: u32,
-        k: u32,
-    ) -> Outcome
-        ensures { LeavesMapEntriesCard itself (accept_end self role map.old catalogue.old
-            card.old limits.now sheet start k) result map.new catalogue.new
-            card.new }
-    {
-        let slot = catalogue::find(&*catalogue, sheet);
-        let held = catalogue_wings::held_by(&*catalogue, sheet);
-        let out = reserves::accept_core(self, role, map, card, limits, slot, held, sheet, start, k);
-        let entry = cores::entry_of(out);
-        catalogue::store(catalogue, sheet, entry);
-        cores::outcome_of(self, out)
-    }
-
-    // The m blocks after an Open extent are added as blank places.
-    pub fn grow(
-        self,
-        role: u32,
-        map: &mut [u64],
-        catalogue: &mut [Entry],
-        card: &mut [u8],
-        limits: &[u32; 8],
-        sheet: u32,
-        m: u32,
-    ) -> Outcome
-        ensures { LeavesMapEntriesCard itself (grow_end self role map.old catalogue.old
-            card.old limits.now sheet m) result map.new catalogue.new
-            card.new }
-    {
-        let slot = catalogue::find(&*catalogue, sheet);
-        let held = catalogue_wings::held_by(&*catalogue, sheet);
-        let out = reserves::grow_core(self, role, map, card, limits, slot, held, sheet, m);
-        let entry = cores::entry_of(out);
-        catalogue::store(catalogue, sheet, entry);
-        cores::outcome_of(self, out)
     }
 
     // On Open, a place becomes the payload.
@@ -216,8 +113,12 @@ impl Shape {
         ensures { LeavesCard itself (putEnd self role map.now catalogue.now card.old
             sheet place payload.now) result card.new }
     {
-        let slot = catalogue::find(catalogue, sheet);
-        cores::put_core(self, role, map, card, slot, sheet, place, payload)
+        let asked = self.asked(role, catalogue, sheet);
+        let answer = call_put::put::put(asked, map, card, place, payload);
+        Outcome {
+            shape: self,
+            answer,
+        }
     }
 
     // Open becomes Complete if every place is filled.
@@ -232,11 +133,10 @@ impl Shape {
         ensures { LeavesEntries itself (complete_end self role map.now catalogue.old
             card.now sheet) result catalogue.new }
     {
-        let slot = catalogue::find(&*catalogue, sheet);
-        let out = cores::complete_core(self, role, map, card, slot, sheet);
-        let entry = cores::entry_of(out);
-        catalogue::store(catalogue, sheet, entry);
-        cores::outcome_of(self, out)
+        let asked = self.asked(role, catalogue, sheet);
+        let out = call_put::complete::complete(asked, map, card);
+        catalogue::store(catalogue, sheet, out.entry);
+        outcome_of(self, out)
     }
 
     // Absent and Complete become Paused; start and length remain (document 02 (g)).
@@ -244,11 +144,10 @@ impl Shape {
         ensures { LeavesEntries itself (pause_end self role map.now catalogue.old sheet) result
             catalogue.new }
     {
-        let slot = catalogue::find(&*catalogue, sheet);
-        let out = cores::pause_core(self, role, map, slot, sheet);
-        let entry = cores::entry_of(out);
-        catalogue::store(catalogue, sheet, entry);
-        cores::outcome_of(self, out)
+        let asked = self.asked(role, catalogue, sheet);
+        let out = call_pause::pause::pause(asked, map);
+        catalogue::store(catalogue, sheet, out.entry);
+        outcome_of(self, out)
     }
 
     // Paused with blocks becomes Complete (document 02 (g)).
@@ -256,11 +155,10 @@ impl Shape {
         ensures { LeavesEntries itself (resume_end self role map.now catalogue.old sheet) result
             catalogue.new }
     {
-        let slot = catalogue::find(&*catalogue, sheet);
-        let out = cores::resume_core(self, role, map, slot, sheet);
-        let entry = cores::entry_of(out);
-        catalogue::store(catalogue, sheet, entry);
-        cores::outcome_of(self, out)
+        let asked = self.asked(role, catalogue, sheet);
+        let out = call_pause::resume::resume(asked, map);
+        catalogue::store(catalogue, sheet, out.entry);
+        outcome_of(self, out)
     }
 
     // Any standing but Absent becomes Absent, and its blocks free.
@@ -268,11 +166,10 @@ impl Shape {
         ensures { LeavesMapEntries itself (release_end self role map.old catalogue.old sheet) result
             map.new catalogue.new }
     {
-        let slot = catalogue::find(&*catalogue, sheet);
-        let out = cores::release_core(self, role, map, slot, sheet);
-        let entry = cores::entry_of(out);
-        catalogue::store(catalogue, sheet, entry);
-        cores::outcome_of(self, out)
+        let asked = self.asked(role, catalogue, sheet);
+        let out = call_release::release(asked, map, false, &mut []);
+        catalogue::store(catalogue, sheet, out.entry);
+        outcome_of(self, out)
     }
 
     // Copies a payload of a Complete sheet.
@@ -289,15 +186,23 @@ impl Shape {
         ensures { LeavesBuffer itself (showEnd self role map.now catalogue.now
             card.now sheet place buffer.old) result buffer.new }
     {
-        let slot = catalogue::find(catalogue, sheet);
-        cores::show_core(self, role, map, card, slot, sheet, place, buffer)
+        let asked = self.asked(role, catalogue, sheet);
+        let answer = call_show::show::show(asked, map, card, place, buffer);
+        Outcome {
+            shape: self,
+            answer,
+        }
     }
 
     // Answers mark, start and length.
     pub fn standing(self, role: u32, map: &[u64], catalogue: &[Entry], sheet: u32) -> Outcome
         ensures { HandsBack itself (standing_end self role map.now catalogue.now sheet) result }
     {
-        let slot = catalogue::find(catalogue, sheet);
-        cores::standing_core(self, role, map, slot, sheet)
+        let asked = self.asked(role, catalogue, sheet);
+        let answer = call_show::standing::standing(asked, map);
+        Outcome {
+            shape: self,
+            answer,
+        }
     }
 }

@@ -1,200 +1,154 @@
-// The cores of the calls that take blocks, or would: reserve, offer, accept and grow. As in cores.rt, the shape and the slot
-// are taken apart for the crates below.
-ghost use Rattle.std.specs.Prelude.{◌≡◌};
-ghost use Rattle.roles.specs.Roles as roles;
-ghost use Rattle.card.specs.Cores.{lent_at};
-ghost use Rattle.card.specs.Cores.{offer_outcome_at};
-ghost use Rattle.card.specs.Reserves.{plain_out, plain_map, plain_card, placed_out, placed_map, placed_card};
-ghost use Rattle.refusals.specs.Lent.{within};
-ghost use Rattle.refusals.specs.Effects.{accept_out, accept_map, accept_card, grow_out, grow_map, grow_card};
+// The methods that take blocks, or would: reserve, plain and placed, offer, accept and grow.
+ghost use Rattle.card.specs.Ends.{reserve_end, reservePlacedEnd, offer_end, accept_end, grow_end};
+ghost use Rattle.card.specs.Leaves.{itself, HandsBack, LeavesMapEntriesCard};
 
+use crate::outcomes::outcome_of;
 use crate::{Outcome, Shape};
-use catalogue::Slot;
-use refusals::{Figures, Out};
+use catalogue::Entry;
+use refusals::Figures;
 
-// The plain reserve is the one with 0, n and 1.
-pub fn reserve_core(
-    shape: Shape,
-    role: u32,
-    map: &mut [u64],
-    card: &mut [u8],
-    limits: &[u32; 8],
-    slot: Slot,
-    held: u64,
-    sheet: u32,
-    k: u32,
-) -> Out
-    ensures { let q = within held limits.now (lent_at roles.reserve shape role map.old card.old slot
-        sheet) in
-        (result ≡ plain_out q k)
-        × (map.new ≡ plain_map q k)
-        × (card.new ≡ plain_card q k) }
-{
-    reserve_placed_core(
-        shape,
-        role,
-        map,
-        card,
-        limits,
-        slot,
-        held,
-        sheet,
-        k,
-        0,
-        shape.blocks,
-        1,
-    )
-}
-
-pub fn reserve_placed_core(
-    shape: Shape,
-    role: u32,
-    map: &mut [u64],
-    card: &mut [u8],
-    limits: &[u32; 8],
-    slot: Slot,
-    held: u64,
-    sheet: u32,
-    k: u32,
-    from: u32,
-    before: u32,
-    step: u32,
-) -> Out
-    ensures { let q = within held limits.now (lent_at roles.reserve shape role map.old card.old slot
-        sheet) in
-        (result ≡ placed_out q k from before step)
-        × (map.new ≡ placed_map q k from before step)
-        × (card.new ≡ placed_card q k from before step) }
-{
-    let entry = slot.entry;
-    let figures = Figures {
-        from: from,
-        before: before,
-        step: step,
-    };
-    let mut none = [0u32; 0];
-    call_reserve::reserve::reserve(
-        role,
-        shape.blocks,
-        shape.free,
-        map,
-        false,
-        &mut none,
-        card,
-        slot.count,
-        entry,
-        sheet,
-        held,
-        limits,
-        k,
-        figures,
-    )
-}
-
-pub fn offer_core(
-    shape: Shape,
-    role: u32,
-    map: &[u64],
-    card: &[u8],
-    limits: &[u32; 8],
-    slot: Slot,
-    held: u64,
-    sheet: u32,
-    k: u32,
-) -> Outcome
-    ensures { result ≡ offer_outcome_at shape role map.now card.now limits.now slot held
-        sheet k }
-{
-    let entry = slot.entry;
-    let answer = call_reserve::offer::offer(
-        role,
-        shape.blocks,
-        shape.free,
-        map,
-        card,
-        slot.count,
-        entry,
-        sheet,
-        held,
-        limits,
-        k,
-    );
-    Outcome {
-        shape: shape,
-        answer: answer,
+impl Shape {
+    // Absent becomes Open at the least fit, with k blank places.
+    pub fn reserve(
+        self,
+        role: u32,
+        map: &mut [u64],
+        catalogue: &mut [Entry],
+        card: &mut [u8],
+        limits: &[u32; 8],
+        sheet: u32,
+        k: u32,
+    ) -> Outcome
+        ensures { LeavesMapEntriesCard itself (reserve_end self role map.old catalogue.old
+            card.old limits.now sheet k) result map.new catalogue.new
+            card.new }
+    {
+        self.reserve_placed(
+            role,
+            map,
+            catalogue,
+            card,
+            limits,
+            sheet,
+            k,
+            0,
+            self.blocks,
+            1,
+        )
     }
-}
 
-pub fn accept_core(
-    shape: Shape,
-    role: u32,
-    map: &mut [u64],
-    card: &mut [u8],
-    limits: &[u32; 8],
-    slot: Slot,
-    held: u64,
-    sheet: u32,
-    start: u32,
-    k: u32,
-) -> Out
-    ensures { let q = within held limits.now (lent_at roles.accept shape role map.old card.old slot
-        sheet) in
-        (result ≡ accept_out q start k)
-        × (map.new ≡ accept_map q start k)
-        × (card.new ≡ accept_card q start k) }
-{
-    let entry = slot.entry;
-    let mut none = [0u32; 0];
-    call_reserve::accept::accept(
-        role,
-        shape.blocks,
-        shape.free,
-        map,
-        false,
-        &mut none,
-        card,
-        slot.count,
-        entry,
-        sheet,
-        held,
-        limits,
-        start,
-        k,
-    )
-}
+    // The same at the least fit within three figures: it starts at or after `from`, ends at or before `before`, and starts on a
+    // multiple of `step` (document 02, request a).
+    pub fn reserve_placed(
+        self,
+        role: u32,
+        map: &mut [u64],
+        catalogue: &mut [Entry],
+        card: &mut [u8],
+        limits: &[u32; 8],
+        sheet: u32,
+        k: u32,
+        from: u32,
+        before: u32,
+        step: u32,
+    ) -> Outcome
+        ensures { LeavesMapEntriesCard itself (reservePlacedEnd self role map.old catalogue.old
+            card.old limits.now sheet k from before step) result map.new catalogue.new
+            card.new }
+    {
+        let asked = self.asked(role, catalogue, sheet);
+        let held = catalogue_wings::held_by(catalogue, sheet);
+        let figures = Figures { from, before, step };
+        let out = call_reserve::reserve::reserve(
+            asked,
+            map,
+            false,
+            &mut [],
+            card,
+            held,
+            limits,
+            k,
+            figures,
+        );
+        catalogue::store(catalogue, sheet, out.entry);
+        outcome_of(self, out)
+    }
 
-pub fn grow_core(
-    shape: Shape,
-    role: u32,
-    map: &mut [u64],
-    card: &mut [u8],
-    limits: &[u32; 8],
-    slot: Slot,
-    held: u64,
-    sheet: u32,
-    m: u32,
-) -> Out
-    ensures { let q = within held limits.now (lent_at roles.grow shape role map.old card.old slot
-        sheet) in
-        (result ≡ grow_out q m)
-        × (map.new ≡ grow_map q m)
-        × (card.new ≡ grow_card q m) }
-{
-    let entry = slot.entry;
-    let mut none = [0u32; 0];
-    call_reserve::grow::grow(
-        role,
-        shape.blocks,
-        shape.free,
-        map,
-        false,
-        &mut none,
-        card,
-        slot.count,
-        entry,
-        sheet,
-        held,
-        limits,
-        m,
-    )
+    // Answers where a plain reserve would start now, and the length; it changes nothing (document 02, request f).
+    pub fn offer(
+        self,
+        role: u32,
+        map: &[u64],
+        catalogue: &[Entry],
+        card: &[u8],
+        limits: &[u32; 8],
+        sheet: u32,
+        k: u32,
+    ) -> Outcome
+        ensures { HandsBack itself (offer_end self role map.now catalogue.now
+            card.now limits.now sheet k) result }
+    {
+        let asked = self.asked(role, catalogue, sheet);
+        let held = catalogue_wings::held_by(catalogue, sheet);
+        let answer = call_reserve::offer::offer(asked, map, card, held, limits, k);
+        Outcome {
+            shape: self,
+            answer,
+        }
+    }
+
+    // Absent becomes Open at the start that is asked for, if the run there is all free (document 02, request f).
+    pub fn accept(
+        self,
+        role: u32,
+        map: &mut [u64],
+        catalogue: &mut [Entry],
+        card: &mut [u8],
+        limits: &[u32; 8],
+        sheet: u32,
+        start: u32,
+        k: u32,
+    ) -> Outcome
+        ensures { LeavesMapEntriesCard itself (accept_end self role map.old catalogue.old
+            card.old limits.now sheet start k) result map.new catalogue.new
+            card.new }
+    {
+        let asked = self.asked(role, catalogue, sheet);
+        let held = catalogue_wings::held_by(catalogue, sheet);
+        let out = call_reserve::accept::accept(
+            asked,
+            map,
+            false,
+            &mut [],
+            card,
+            held,
+            limits,
+            start,
+            k,
+        );
+        catalogue::store(catalogue, sheet, out.entry);
+        outcome_of(self, out)
+    }
+
+    // The m blocks after an Open extent are added as blank places.
+    pub fn grow(
+        self,
+        role: u32,
+        map: &mut [u64],
+        catalogue: &mut [Entry],
+        card: &mut [u8],
+        limits: &[u32; 8],
+        sheet: u32,
+        m: u32,
+    ) -> Outcome
+        ensures { LeavesMapEntriesCard itself (grow_end self role map.old catalogue.old
+            card.old limits.now sheet m) result map.new catalogue.new
+            card.new }
+    {
+        let asked = self.asked(role, catalogue, sheet);
+        let held = catalogue_wings::held_by(catalogue, sheet);
+        let out = call_reserve::grow::grow(asked, map, false, &mut [], card, held, limits, m);
+        catalogue::store(catalogue, sheet, out.entry);
+        outcome_of(self, out)
+    }
 }

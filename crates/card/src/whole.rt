@@ -3,8 +3,10 @@ ghost use Rattle.card.specs.Ends.{fresh_end, save_end, load_end, close_end};
 ghost use Rattle.card.specs.Leaves.{itself, LeavesMapEntries, LeavesScratchImage, LeavesMapEntriesScratch};
 ghost use Rattle.card.specs.Leaves.{LeavesMapEntriesCardScratch};
 
-use crate::{Outcome, Shape, cores};
+use crate::outcomes::{load_outcome, save_outcome};
+use crate::{Outcome, Shape};
 use catalogue::Entry;
+use catalogue_standings::Answer;
 
 impl Shape {
     // All blocks free, all sheets Absent. It reads nothing of the shape it takes.
@@ -12,11 +14,22 @@ impl Shape {
         ensures { LeavesMapEntries itself (fresh_end self role blocks map.old catalogue.old) result
             map.new catalogue.new }
     {
-        let count = catalogue::count(&*catalogue);
-        let out = cores::fresh_core(self, role, blocks, map, count);
-        let accepted = cores::is_done(out);
-        catalogue::clear_if(catalogue, accepted);
-        out
+        match call_search::fresh(role, blocks, map, catalogue.len()) {
+            Err(why) => Outcome {
+                shape: self,
+                answer: why.answer(),
+            },
+            Ok(()) => {
+                catalogue::clear_if(catalogue, true);
+                Outcome {
+                    shape: Shape {
+                        blocks,
+                        free: blocks,
+                    },
+                    answer: Answer::Done,
+                }
+            }
+        }
     }
 
     // Writes the image of the state, if it is sound and the buffer exactly the image's length. Every save zeroes the scratch.
@@ -31,10 +44,8 @@ impl Shape {
         ensures { LeavesScratchImage itself (save_end self role map.now catalogue.now
             scratch.old image.old) result scratch.new image.new }
     {
-        let n = cores::blocks_of(self);
-        let free = cores::free_of(self);
-        let number = image_save::save(role, n, free, map, catalogue, scratch, image);
-        cores::save_outcome(self, number)
+        let ended = image_save::save(role, self.blocks, self.free, map, catalogue, scratch, image);
+        save_outcome(self, ended)
     }
 
     // Moves all extents towards block 0, in order of their starts and with no block free before or between them, and the bytes
@@ -51,11 +62,17 @@ impl Shape {
             card.old scratch.old) result map.new catalogue.new card.new
             scratch.new }
     {
-        let n = cores::blocks_of(self);
-        let free = cores::free_of(self);
-        let fits = cores::nothing_else(self);
-        let number = closing::close(role, n, free, fits, map, catalogue, card, scratch);
-        cores::save_outcome(self, number)
+        let ended = closing::close(
+            role,
+            self.blocks,
+            self.free,
+            true,
+            map,
+            catalogue,
+            card,
+            scratch,
+        );
+        save_outcome(self, ended)
     }
 
     // Reads map, entries and shape from an image, and nothing of the shape it takes. Every load leaves the scratch all zeros.
@@ -72,6 +89,6 @@ impl Shape {
             scratch.new }
     {
         let loaded = image_load::load(role, image, map, catalogue, scratch);
-        cores::load_outcome(self, loaded)
+        load_outcome(self, loaded)
     }
 }

@@ -1,4 +1,5 @@
-// The calls on a summary beside the map, and the calls that are lent one (document 02, request j).
+// The calls on a summary beside the map, and the calls that are lent one (document 02, request j). They stand beside the calls
+// without one, since C has a function for each.
 ghost use Rattle.card.specs.Ends.{summary_build_end, summary_check_end, reserve_with_summary_end};
 ghost use Rattle.card.specs.Ends.{reserve_placed_with_summary_end};
 ghost use Rattle.card.specs.Ends.{acceptWithSummaryEnd, grow_with_summary_end, release_with_summary_end};
@@ -6,8 +7,10 @@ ghost use Rattle.card.specs.Ends.{close_with_summary_end};
 ghost use Rattle.card.specs.Leaves.{itself, HandsBack, LeavesSummary, LeavesMapSummaryEntries};
 ghost use Rattle.card.specs.Leaves.{LeavesMapSummaryEntriesCard, LeavesMapSummaryEntriesCardScratch};
 
-use crate::{Outcome, Shape, cores, guided};
+use crate::outcomes::{outcome_of, rebuild, save_outcome};
+use crate::{Outcome, Shape};
 use catalogue::Entry;
+use refusals::Figures;
 
 impl Shape {
     // The summary becomes the map's own.
@@ -18,7 +21,7 @@ impl Shape {
         let answer = call_summary::build_summary(role, self.blocks, self.free, map, summary);
         Outcome {
             shape: self,
-            answer: answer,
+            answer,
         }
     }
 
@@ -29,7 +32,7 @@ impl Shape {
         let answer = call_summary::check_summary(role, self.blocks, self.free, map, summary);
         Outcome {
             shape: self,
-            answer: answer,
+            answer,
         }
     }
 
@@ -49,14 +52,19 @@ impl Shape {
             summary.old catalogue.old card.old limits.now sheet k) result
             map.new summary.new catalogue.new card.new }
     {
-        let slot = catalogue::find(&*catalogue, sheet);
-        let held = catalogue_wings::held_by(&*catalogue, sheet);
-        let out = guided::reserve_guided(
-            self, role, map, summary, card, limits, slot, held, sheet, k,
-        );
-        let entry = cores::entry_of(out);
-        catalogue::store(catalogue, sheet, entry);
-        cores::outcome_of(self, out)
+        self.reserve_placed_with_summary(
+            role,
+            map,
+            summary,
+            catalogue,
+            card,
+            limits,
+            sheet,
+            k,
+            0,
+            self.blocks,
+            1,
+        )
     }
 
     // The placed reserve, guided by the summary.
@@ -78,14 +86,14 @@ impl Shape {
             summary.old catalogue.old card.old limits.now sheet k from before
             step) result map.new summary.new catalogue.new card.new }
     {
-        let slot = catalogue::find(&*catalogue, sheet);
-        let held = catalogue_wings::held_by(&*catalogue, sheet);
-        let out = guided::reserve_placed_guided(
-            self, role, map, summary, card, limits, slot, held, sheet, k, from, before, step,
+        let asked = self.asked(role, catalogue, sheet);
+        let held = catalogue_wings::held_by(catalogue, sheet);
+        let figures = Figures { from, before, step };
+        let out = call_reserve::reserve::reserve(
+            asked, map, true, summary, card, held, limits, k, figures,
         );
-        let entry = cores::entry_of(out);
-        catalogue::store(catalogue, sheet, entry);
-        cores::outcome_of(self, out)
+        catalogue::store(catalogue, sheet, out.entry);
+        outcome_of(self, out)
     }
 
     // Accept, after which the summary follows the map.
@@ -105,14 +113,13 @@ impl Shape {
             summary.old catalogue.old card.old limits.now sheet start k) result
             map.new summary.new catalogue.new card.new }
     {
-        let slot = catalogue::find(&*catalogue, sheet);
-        let held = catalogue_wings::held_by(&*catalogue, sheet);
-        let out = guided::accept_guided(
-            self, role, map, summary, card, limits, slot, held, sheet, start, k,
+        let asked = self.asked(role, catalogue, sheet);
+        let held = catalogue_wings::held_by(catalogue, sheet);
+        let out = call_reserve::accept::accept(
+            asked, map, true, summary, card, held, limits, start, k,
         );
-        let entry = cores::entry_of(out);
-        catalogue::store(catalogue, sheet, entry);
-        cores::outcome_of(self, out)
+        catalogue::store(catalogue, sheet, out.entry);
+        outcome_of(self, out)
     }
 
     // Grow, after which the summary follows the map.
@@ -131,12 +138,11 @@ impl Shape {
             summary.old catalogue.old card.old limits.now sheet m) result
             map.new summary.new catalogue.new card.new }
     {
-        let slot = catalogue::find(&*catalogue, sheet);
-        let held = catalogue_wings::held_by(&*catalogue, sheet);
-        let out = guided::grow_guided(self, role, map, summary, card, limits, slot, held, sheet, m);
-        let entry = cores::entry_of(out);
-        catalogue::store(catalogue, sheet, entry);
-        cores::outcome_of(self, out)
+        let asked = self.asked(role, catalogue, sheet);
+        let held = catalogue_wings::held_by(catalogue, sheet);
+        let out = call_reserve::grow::grow(asked, map, true, summary, card, held, limits, m);
+        catalogue::store(catalogue, sheet, out.entry);
+        outcome_of(self, out)
     }
 
     // Release, after which the summary follows the map.
@@ -152,11 +158,10 @@ impl Shape {
             summary.old catalogue.old sheet) result map.new summary.new
             catalogue.new }
     {
-        let slot = catalogue::find(&*catalogue, sheet);
-        let out = guided::release_guided(self, role, map, summary, slot, sheet);
-        let entry = cores::entry_of(out);
-        catalogue::store(catalogue, sheet, entry);
-        cores::outcome_of(self, out)
+        let asked = self.asked(role, catalogue, sheet);
+        let out = call_release::release(asked, map, true, summary);
+        catalogue::store(catalogue, sheet, out.entry);
+        outcome_of(self, out)
     }
 
     // Closing, after which the summary is built anew (document 02 (l)).
@@ -173,11 +178,18 @@ impl Shape {
             summary.old catalogue.old card.old scratch.old) result map.new
             summary.new catalogue.new card.new scratch.new }
     {
-        let n = cores::blocks_of(self);
-        let free = cores::free_of(self);
-        let fits = guided::beside_fits(&*map, &*summary);
-        let number = closing::close(role, n, free, fits, map, catalogue, card, scratch);
-        guided::rebuild(self, &*map, summary, number);
-        cores::save_outcome(self, number)
+        let fits = refusals::guide_fits(true, map.len(), summary.len());
+        let ended = closing::close(
+            role,
+            self.blocks,
+            self.free,
+            fits,
+            map,
+            catalogue,
+            card,
+            scratch,
+        );
+        rebuild(self, map, summary, ended);
+        save_outcome(self, ended)
     }
 }

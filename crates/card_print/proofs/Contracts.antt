@@ -1,5 +1,5 @@
 -- The contracts of the printer's functions, of the functions themselves: what each ensures is the proposition that stands here,
--- by computation (`..-contract`), and what it asks of its caller: nothing (`print_image_asks_nothing`), or no more entries than
+-- by computation (`.._contract`), and what it asks of its caller: nothing (`print_image_asks_nothing`), or no more entries than
 -- there are (`print_with_asks`). So a clause of the source that is made weaker, or one that asks more, is refused here.
 -- Assumes nothing.
 use Prim.Native.Nat.{◌≤◌}

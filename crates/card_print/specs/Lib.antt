@@ -1,3 +1,2 @@
--- What the card printer prints of an image, and names for what its functions do.
+-- What the card printer prints of an image.
 pub mod Printed
-pub mod Beginnings

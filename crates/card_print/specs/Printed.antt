@@ -39,10 +39,6 @@ PrintsWith shape role image map entries c scratch text r map' scratch' text' =
     text'
     × (map' ≡ load_map (turned_away role names.load) image map (take c entries) scratch) × (scratch' ≡ zeros_for scratch)
 
--- What was used is given back, whatever the entries are.
-abbrev pub Given : ℕ → List Entry → ℕ → Type 0
-Given used entries r = r ≡ used
-
 -- So many bytes a text has in which all that is to be printed finds room (proofs/Whole.antt), as the program's has.
 abbrev pub room : ℕ
 room = 32768

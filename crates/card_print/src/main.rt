@@ -44,15 +44,8 @@ fn text_space() -> [u8; 32768]
     [0; 32768]
 }
 
-fn smaller(a: usize, b: usize) -> usize
-    ensures { (result ≤ a) × (result ≤ b) }
-{
-    if a < b { a } else { b }
-}
-
 // Prints an image as service, with as many words, entries and words of scratch as it asks for and there are at most. The text
-// has room
-// for all that is to be printed: in so many bytes nothing is cut (`prints_whole`, proofs/Whole.antt).
+// has room for all that is to be printed: in so many bytes nothing is cut (`prints_whole`, proofs/Whole.antt).
 fn print_card(
     out: &mut Stdout,
     image: &[u8],
@@ -67,10 +60,10 @@ fn print_card(
         start: 0,
         length: 0,
     }; SHEETS];
-    let words = (image_frames::number(image, 0) as usize + 63) / 64;
-    let w = smaller(words, map.len());
-    let s = smaller(w, scratch.len());
-    let c = smaller(image_frames::number(image, 2) as usize, SHEETS);
+    let words = (image_frames::number(image, 0) as usize).div_ceil(64);
+    let w = words.min(map.len());
+    let s = w.min(scratch.len());
+    let c = SHEETS.min(image_frames::number(image, 2) as usize);
     let none = Shape { blocks: 0, free: 0 };
     let used = print::print_with(
         none,
@@ -82,7 +75,7 @@ fn print_card(
         &mut scratch[..s],
         text,
     );
-    let end = smaller(used, text.len());
+    let end = used.min(text.len());
     out.write_all(&text[..end])
 }
 
@@ -105,7 +98,7 @@ fn main(rt: HostRuntime) -> io::Result<()> {
     let mut map = map_space();
     let mut scratch = scratch_space();
     let mut text = text_space();
-    let end = smaller(read, image.len());
+    let end = read.min(image.len());
     let mut out = rt.stdout();
     print_card(&mut out, &image[..end], &mut map, &mut scratch, &mut text)
 }

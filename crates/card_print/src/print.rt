@@ -1,45 +1,16 @@
 // The card printer's work: an image in, the text of its card or of a refusal out.
-ghost use Rattle.std.specs.Prelude.{◌≡◌, ◌≤◌};
-ghost use Rattle.card_print.specs.Beginnings.{refusal_writer, refusal_written, begin_writer, begin_written};
-ghost use Rattle.card_print.specs.Printed.{Prints, PrintsWith, Given};
+ghost use Rattle.std.specs.Prelude.{◌≤◌};
+ghost use Rattle.card_print.specs.Printed.{Prints, PrintsWith};
 
 use card::Shape;
 use catalogue::Entry;
-use catalogue_standings::opening::{SHEETS, shape_fits};
-use pagunlit_replies::{Reply, reply_of};
-use printer::{Writer, describe_refusal, place_of, write_head, write_sheets};
-
-// Writes the text of a refusal. No line of a sheet goes behind it.
-fn refuse(number: u32, text: &mut [u8]) -> Writer
-    ensures { (result ≡ refusal_writer number text.old)
-        × (text.new ≡ refusal_written number text.old) }
-{
-    let end = describe_refusal(number, text);
-    Writer {
-        at: end,
-        sheet: 0,
-        stop: true,
-    }
-}
-
-// Writes a refusal, or the first two lines of a card.
-fn begin(loaded: Reply, map: &[u64], count: usize, text: &mut [u8]) -> Writer
-    ensures { (result ≡ begin_writer loaded map.now count text.old)
-        × (text.new ≡ begin_written loaded map.now count text.old) }
-{
-    if loaded.number != 0 {
-        return refuse(loaded.number, text);
-    }
-    if !shape_fits(loaded.shape.blocks, loaded.shape.free, map.len()) {
-        return refuse(1, text);
-    }
-    let counts = survey::survey(map, loaded.shape.blocks);
-    write_head(loaded.shape.blocks, loaded.shape.free, count, counts, text)
-}
+use catalogue_standings::opening::SHEETS;
+use pagunlit_replies::reply_of;
+use printer::{describe_card, describe_refusal};
 
 // Writes what is to be printed of an image to the text, and gives the number of its bytes. A role loads it, over a shape of
-// which a load reads nothing. The map has a bit for each block of
-// the card, the catalogue an entry for each sheet, and the scratch its length; load refuses them if not.
+// which a load reads nothing. The map has a bit for each block of the card, the catalogue an entry for each sheet, and the
+// scratch its length; load refuses them if not. Then the map of an accepted load holds the card's blocks.
 pub fn print_image(
     shape: Shape,
     role: u32,
@@ -53,18 +24,14 @@ pub fn print_image(
         text.old result
         map.new catalogue.new scratch.new text.new }
 {
-    let count = catalogue::count(&*catalogue);
     let outcome = shape.load(role, image, map, catalogue, scratch);
     let loaded = reply_of(outcome);
-    let first = begin(loaded, &*map, count, text);
-    let last = write_sheets(&*catalogue, first, text);
-    place_of(last)
-}
-
-fn used_of(used: usize, entries: [Entry; SHEETS]) -> usize
-    ensures { Given used entries result }
-{
-    used
+    if loaded.number != 0 {
+        return describe_refusal(loaded.number, text);
+    }
+    let n = loaded.shape.blocks;
+    let counts = survey::survey(&*map, n);
+    describe_card(n, loaded.shape.free, counts, &*catalogue, text)
 }
 
 // The same with the first c of some entries by value, of which nothing is handed back.
@@ -84,6 +51,5 @@ pub fn print_with(
         map.new scratch.new text.new }
 {
     let mut all = entries;
-    let used = print_image(shape, role, image, map, &mut all[..c], scratch, text);
-    used_of(used, all)
+    print_image(shape, role, image, map, &mut all[..c], scratch, text)
 }

@@ -1,3 +1,2 @@
--- The laws of what is found, stored and cleared.
-pub mod Clearing
+-- The laws of what is found and stored.
 pub mod Storing

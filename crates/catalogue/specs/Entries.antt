@@ -39,10 +39,6 @@ unfoldable pub held : List Entry → ℕ
 held [] = 0
 held (e ∷ es) = e.length + held es
 
--- an entry after fresh: Absent if fresh was accepted, else as it was
-abbrev pub cleared : Bool → Entry → Entry
-cleared accepted entry = cond accepted absent entry
-
 -- the entries after fresh: all Absent if fresh was accepted, else as they were
 abbrev pub cleared_if : List Entry → Bool → List Entry
 cleared_if entries accepted = cond accepted (replicate (length entries) absent) entries

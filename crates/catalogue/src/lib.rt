@@ -2,10 +2,11 @@
 // These functions read, store and clear entries, and decide nothing: every decision is in code on an entry by value.
 #![tactic(auto)]
 
-ghost use Rattle.std.specs.Prelude.{◌≡◌, length, set};
-ghost use Rattle.catalogue.specs.Entries.{slot_at, cleared, cleared_if};
+ghost use Rattle.std.specs.Prelude.{◌≡◌, set};
+ghost use Rattle.catalogue.specs.Entries.{slot_at, cleared_if};
 
-// The mark of each standing, in ASCII: A, P, O and C.
+// The mark of each standing, in ASCII: A, P, O and C. They are numbers and no enum, since an entry lies in the C program's
+// memory and may have any other there.
 pub const ABSENT: u32 = 0x41;
 
 pub const PAUSED: u32 = 0x50;
@@ -30,30 +31,20 @@ pub struct Slot {
     pub entry: Entry,
 }
 
-// How many entries there are.
-pub fn count(catalogue: &[Entry]) -> usize
-    ensures { result ≡ length catalogue.now }
-{
-    catalogue.len()
-}
-
 // How many entries there are, and the entry of the sheet; three zeros, which are damaged and never a pause, where the
 // sheet has none.
 pub fn find(catalogue: &[Entry], sheet: u32) -> Slot
     ensures { result ≡ slot_at catalogue.now sheet }
 {
-    let at = sheet as usize;
-    let n = catalogue.len();
-    if at < n {
-        let e = catalogue[at];
-        return Slot { count: n, entry: e };
-    }
-    let e = Entry {
+    let none = Entry {
         mark: 0,
         start: 0,
         length: 0,
     };
-    Slot { count: n, entry: e }
+    Slot {
+        count: catalogue.len(),
+        entry: catalogue.get(sheet as usize).copied().unwrap_or(none),
+    }
 }
 
 // Stores the entry of the sheet. Past the end nothing changes.
@@ -66,29 +57,15 @@ pub fn store(catalogue: &mut [Entry], sheet: u32, entry: Entry)
     }
 }
 
-// What an entry becomes: Absent if fresh was accepted, else what it was.
-fn clear_entry(accepted: bool, entry: Entry) -> Entry
-    ensures { result ≡ cleared accepted entry }
-{
-    if accepted {
-        Entry {
-            mark: ABSENT,
-            start: 0,
-            length: 0,
-        }
-    } else {
-        entry
-    }
-}
-
 // Every entry becomes Absent if fresh was accepted. Else none changes.
 pub fn clear_if(catalogue: &mut [Entry], accepted: bool)
     ensures { catalogue.new ≡ cleared_if catalogue.old accepted }
 {
-    let mut i: usize = 0;
-    while i < catalogue.len() {
-        let entry = clear_entry(accepted, catalogue[i]);
-        catalogue[i] = entry;
-        i += 1;
+    if accepted {
+        catalogue.fill(Entry {
+            mark: ABSENT,
+            start: 0,
+            length: 0,
+        });
     }
 }

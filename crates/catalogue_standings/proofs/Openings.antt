@@ -17,7 +17,10 @@ use Rattle.catalogue_standings.specs.Standings.{extent_holds, standing_of, is_ab
 use Rattle.catalogue_standings.specs.Standings.{is_damaged}
 use Rattle.catalogue_standings.specs.declared.Standing.{Standing}
 use Rattle.catalogue_standings.specs.declared.Standing.TheVariants.{Absent, Paused, PausedWith, Open, Complete, Damaged}
-use Rattle.catalogue_standings.specs.declared.Opened.TheVariants.{Refused, Stands}
+use Rattle.catalogue_standings.specs.declared.Refusal.{Refusal}
+use Rattle.catalogue_standings.specs.declared.Refusal.TheVariants as refusal
+use Rattle.catalogue_standings.specs.Refusals.{number}
+use Rattle.std.specs.Prelude.{Result, Ok, Err}
 
 -- ---- rows one after the other
 
@@ -32,25 +35,32 @@ stop number test rows e = simp e
 
 -- ---- what the first rows answered
 
+told : (row : ℕ) (r why : Refusal) → number r ≡ row → ◌≡◌ {A = Result Standing Refusal} (Err r) (Err why)
+    → refused row ≡ refused (number why)
+told row r why h e = let same : r ≡ why = cc in ap refused (sym h ∙ ap number same)
+
+never : {t : Standing} {why : Refusal} → ◌≡◌ {A = Result Standing Refusal} (Ok t) (Err why) → ⊥
+never e = let z : ◌≡◌ {A = ℕ} 0 1 = cc in omega arith
+
 abbrev pub rows_of : Bool → Bool → ℕ → ℕ → Standing → List Row → List Row
 rows_of turned fits c sheet s rows = row 21 turned ∷ row 1 (not fits) ∷ row 2 (leb c sheet) ∷ row 4 (is_damaged s) ∷ rows
 
-pub closed : (turned fits : Bool) (c sheet : ℕ) (s : Standing) (rows : List Row) (number : ℕ)
-    → opened_for turned fits c sheet s ≡ Refused number → first_of (rows_of turned fits c sheet s rows) ≡ refused number
+pub closed : (turned fits : Bool) (c sheet : ℕ) (s : Standing) (rows : List Row) (why : Refusal)
+    → opened_for turned fits c sheet s ≡ Err why → first_of (rows_of turned fits c sheet s rows) ≡ refused (number why)
 unfolding opened_of first_of
-closed true fits c sheet s rows number e = cc
-closed false false c sheet s rows number e = cc
-closed false true c sheet s rows number e = go (leb c sheet) s e
+closed true fits c sheet s rows why e = told 21 refusal.TurnedAway why refl e
+closed false false c sheet s rows why e = told 1 refusal.Misfit why refl e
+closed false true c sheet s rows why e = go (leb c sheet) s e
   where
-    go : (b : Bool) (s : Standing) → cond b (Refused 2) (unless_damaged s) ≡ Refused number
-        → cond b (refused 2) (cond (is_damaged s) (refused 4) (first_of rows)) ≡ refused number
-    go true s e = cc
-    go false Absent e = cc
-    go false Paused e = cc
-    go false (PausedWith a b) e = cc
-    go false (Open a b) e = cc
-    go false (Complete a b) e = cc
-    go false Damaged e = cc
+    go : (b : Bool) (s : Standing) → cond b (Err refusal.NoSuchSheet) (unless_damaged s) ≡ Err why
+        → cond b (refused 2) (cond (is_damaged s) (refused 4) (first_of rows)) ≡ refused (number why)
+    go true s e = told 2 refusal.NoSuchSheet why refl e
+    go false Absent e = absurd (never e)
+    go false Paused e = absurd (never e)
+    go false (PausedWith a b) e = absurd (never e)
+    go false (Open a b) e = absurd (never e)
+    go false (Complete a b) e = absurd (never e)
+    go false Damaged e = told 4 refusal.Damaged why refl e
 
 pub record Opening (turned fits : Bool) (c sheet : ℕ) (s t : Standing) (rows : List Row) : Type 0 where
   pub admitted : turned ≡ false
@@ -60,22 +70,13 @@ pub record Opening (turned fits : Bool) (c sheet : ℕ) (s t : Standing) (rows :
   pub whole : is_damaged s ≡ false
   pub verdict : first_of (rows_of turned fits c sheet s rows) ≡ first_of rows
 
-pub opened : (turned fits : Bool) (c sheet : ℕ) (s t : Standing) (rows : List Row) → opened_for turned fits c sheet s ≡ Stands t
+pub opened : (turned fits : Bool) (c sheet : ℕ) (s t : Standing) (rows : List Row) → opened_for turned fits c sheet s ≡ Ok t
     → Opening turned fits c sheet s t rows
 unfolding opened_of first_of
-opened true fits c sheet s t rows e = absurd (never e)
-  where
-    never : Refused 21 ≡ Stands t → ⊥
-    never e = let z : ◌≡◌ {A = ℕ} 0 1 = cc in omega arith
-opened false false c sheet s t rows e = absurd (never e)
-  where
-    never : Refused 1 ≡ Stands t → ⊥
-    never e = let z : ◌≡◌ {A = ℕ} 0 1 = cc in omega arith
+opened true fits c sheet s t rows e = absurd (never (sym e))
+opened false false c sheet s t rows e = absurd (never (sym e))
 opened false true c sheet s t rows e = go (leb c sheet) refl s e
   where
-    never : (number : ℕ) → Refused number ≡ Stands t → ⊥
-    never number e = let z : ◌≡◌ {A = ℕ} 0 1 = cc in omega arith
-
     made : (b : Bool) → leb c sheet ≡ b → (s : Standing) → b ≡ false → s ≡ t → is_damaged s ≡ false
         → Opening false true c sheet s t rows
     made b q s f p d = record {
@@ -90,15 +91,15 @@ opened false true c sheet s t rows e = go (leb c sheet) refl s e
       );
     }
 
-    go : (b : Bool) → leb c sheet ≡ b → (s : Standing) → cond b (Refused 2) (unless_damaged s) ≡ Stands t
+    go : (b : Bool) → leb c sheet ≡ b → (s : Standing) → cond b (Err refusal.NoSuchSheet) (unless_damaged s) ≡ Ok t
         → Opening false true c sheet s t rows
-    go true q s e = absurd (never 2 e)
+    go true q s e = absurd (never (sym e))
     go false q Absent e = made false q Absent refl (cc) refl
     go false q Paused e = made false q Paused refl (cc) refl
     go false q (PausedWith a b) e = made false q (PausedWith a b) refl (cc) refl
     go false q (Open a b) e = made false q (Open a b) refl (cc) refl
     go false q (Complete a b) e = made false q (Complete a b) refl (cc) refl
-    go false q Damaged e = absurd (never 4 e)
+    go false q Damaged e = absurd (never (sym e))
 
 -- ---- what an undamaged entry holds
 

@@ -1,6 +1,8 @@
 -- The numbers and values that document 01 gives for each answer.
 -- Assumes nothing.
-use Rattle.std.specs.Prelude.{ℕ, List, [], ◌∷◌}
+use Rattle.std.specs.Prelude.{ℕ, List, [], ◌∷◌, Result, Ok, Err}
+use Rattle.catalogue_standings.specs.Refusals.{number}
+use Rattle.catalogue_standings.specs.declared.Refusal.{Refusal}
 use Rattle.catalogue_standings.specs.declared.Answer.{Answer}
 use Rattle.catalogue_standings.specs.declared.Answer.TheVariants.{Done, Start, Reads, Counted, Own, Blank, Refused}
 
@@ -24,3 +26,8 @@ values_of (Counted f r l) = f ∷ r ∷ l ∷ []
 values_of (Own own) = own ∷ []
 values_of (Blank p) = p ∷ []
 values_of (Refused k) = []
+
+-- What is answered for a call that goes on to an answer of its own, or is refused.
+abbrev pub answer_in : Result Answer Refusal → Answer
+answer_in (Ok answer) = answer
+answer_in (Err r) = Refused (number r)

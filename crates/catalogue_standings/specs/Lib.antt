@@ -5,3 +5,4 @@ pub mod Openings
 pub mod Rows
 pub mod Searches
 pub mod Standings
+pub mod Refusals

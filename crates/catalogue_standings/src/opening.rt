@@ -1,19 +1,20 @@
-// The rows that every call begins with: 1, 2 and 4 for the entry.
-ghost use Rattle.std.specs.Prelude.{◌≡◌, cond, ◌&&◌, ◌+◌, ◌*◌, ◌≤◌, eqb, length};
+// The rows that every call on a sheet begins with: 21, 1, 2 and 4 for the entry.
+ghost use Rattle.std.specs.Prelude.{◌≡◌, true, false, MatchResult, cond, ◌&&◌, ◌*◌, ◌≤◌, eqb, length};
 ghost use Rattle.map_blocks.specs.Blocks;
 ghost use Rattle.map_blocks.specs.Blocks.{free};
 ghost use Rattle.catalogue_standings.specs.Standings.{extent_holds, standing_of};
-ghost use Rattle.catalogue_standings.specs.Limits.{shape_fits, sheets_fit};
+ghost use Rattle.catalogue_standings.specs.Limits.{shape_fits, sheets_fit, card_fits, lent_fits};
 ghost use Rattle.catalogue_standings.specs.Openings;
-ghost use Rattle.catalogue_standings.specs.Openings.{opened_of, opened_for, row_of, refused_row};
+ghost use Rattle.catalogue_standings.specs.Openings.{opened_of, opened_for, refusal_of};
+ghost use Rattle.roles.specs.Names.{call_number};
 ghost use Rattle.roles.specs.Roles.{turned_away};
 
-use crate::{Opened, Standing};
+use crate::{Refusal, Standing};
 use block_seals::BLOCK;
 use catalogue::{ABSENT, COMPLETE, Entry, OPEN, PAUSED};
 pub use map_blocks::BLOCKS;
 use map_blocks::run::{TAKEN, all_marked};
-use roles::{TURNED_AWAY, turned_away};
+use roles::Call;
 
 // The most sheets of a card.
 pub const SHEETS: usize = 1024;
@@ -46,7 +47,9 @@ pub fn sheets_fit(c: usize) -> bool
     c <= SHEETS
 }
 
-// An extent is not empty, lies inside n, and none of its blocks is free.
+// An extent is not empty, lies inside n, and none of its blocks is free. Its loop stands once, apart from
+// the calls, which have the rows before it inline (`open`).
+#[inline(never)]
 fn extent_holds(n: u32, map: &[u64], start: u32, blocks: u32) -> bool
     requires { (n ≤ 262144) × (n ≤ 64 * length map.now) }
     ensures { result ≡ extent_holds n (free map.now) start blocks }
@@ -63,7 +66,8 @@ fn extent_holds(n: u32, map: &[u64], start: u32, blocks: u32) -> bool
     all_marked(map, start, blocks, TAKEN)
 }
 
-// What an entry says.
+// What an entry says. It is inline as `open` is.
+#[inline(always)]
 pub fn decode(n: u32, map: &[u64], entry: Entry) -> Standing
     requires { (n ≤ 262144) × (n ≤ 64 * length map.now) }
     ensures { result ≡ standing_of n (free map.now) entry }
@@ -121,118 +125,93 @@ fn with_extent(n: u32, map: &[u64], start: u32, blocks: u32, stands: Standing) -
     Standing::Damaged
 }
 
-// A sheet's standing, or 4 for damage.
-fn unless_damaged(stands: Standing) -> Opened
+// A sheet's standing, unless it is damaged.
+fn unless_damaged(stands: Standing) -> Result<Standing, Refusal>
     ensures { result ≡ Openings.unless_damaged stands }
 {
     match stands {
-        Standing::Absent => Opened::Stands(Standing::Absent),
-        Standing::Paused => Opened::Stands(Standing::Paused),
-        Standing::PausedWith(start, blocks) => Opened::Stands(Standing::PausedWith(start, blocks)),
-        Standing::Open(start, blocks) => Opened::Stands(Standing::Open(start, blocks)),
-        Standing::Complete(start, blocks) => Opened::Stands(Standing::Complete(start, blocks)),
-        Standing::Damaged => Opened::Refused(4),
+        Standing::Damaged => Err(Refusal::Damaged),
+        other => Ok(other),
     }
 }
 
 // The row of a standing that a call does not admit.
-pub fn row_of(stands: Standing) -> u32
-    ensures { result ≡ row_of stands }
+pub fn row_of(stands: Standing) -> Refusal
+    ensures { result ≡ refusal_of stands }
 {
     match stands {
-        Standing::Absent => 5,
-        Standing::Paused => 6,
-        Standing::PausedWith(_, _) => 6,
-        Standing::Open(_, _) => 7,
-        Standing::Complete(_, _) => 8,
-        Standing::Damaged => 4,
+        Standing::Absent => Refusal::IsAbsent,
+        Standing::Paused | Standing::PausedWith(_, _) => Refusal::IsPaused,
+        Standing::Open(_, _) => Refusal::IsOpen,
+        Standing::Complete(_, _) => Refusal::IsComplete,
+        Standing::Damaged => Refusal::Damaged,
     }
 }
 
-// Rows 1, 2 and 4 for the entry, of a call that is not lent the card.
-pub fn open_sheet(n: u32, free: u32, map: &[u64], c: usize, sheet: u32, entry: Entry) -> Opened
-    ensures { result ≡ opened_of (shape_fits n free (length map.now) && sheets_fit c) c sheet
-        (standing_of n (Blocks.free map.now) entry) }
-{
-    if !shape_fits(n, free, map.len()) {
-        return Opened::Refused(1);
-    }
-    if !sheets_fit(c) {
-        return Opened::Refused(1);
-    }
-    if c <= sheet as usize {
-        return Opened::Refused(2);
-    }
-    unless_damaged(decode(n, map, entry))
+// Who makes a call on a sheet, and of what card: the role's number; the card's blocks, and how many of them are free; the
+// number of sheets, and the sheet's own number and entry.
+#[derive(Clone, Copy)]
+pub struct Asked {
+    pub role: u32,
+    pub n: u32,
+    pub free: u32,
+    pub sheets: usize,
+    pub sheet: u32,
+    pub entry: Entry,
 }
 
-// The same rows of a call that is lent the card.
-pub fn open_on(
-    n: u32,
-    free: u32,
-    map: &[u64],
-    cardlen: usize,
-    c: usize,
-    sheet: u32,
-    entry: Entry,
-) -> Opened
-    ensures { result ≡ opened_of (shape_fits n free (length map.now) && sheets_fit c && eqb cardlen (512 * n)) c
-        sheet (standing_of n (Blocks.free map.now) entry) }
-{
-    if cardlen != BLOCK * (n as usize) {
-        return Opened::Refused(1);
+impl Asked {
+    // Row 1 for the card's length, of a call that is lent the card.
+    fn card_fits(self, cardlen: Option<usize>) -> bool
+        ensures { result ≡ card_fits self.n cardlen }
+    {
+        match cardlen {
+            Some(bytes) => bytes == BLOCK * (self.n as usize),
+            None => true,
+        }
     }
-    open_sheet(n, free, map, c, sheet, entry)
+
+    // Rows 1, 2 and 4 for the entry. It is inline, since each call then has the standing in registers, and tests of it only
+    // what it asks.
+    #[inline(always)]
+    pub fn open(self, map: &[u64], cardlen: Option<usize>) -> Result<Standing, Refusal>
+        ensures { result ≡ opened_of (lent_fits self.n self.free (length map.now) self.sheets cardlen) self.sheets
+            self.sheet (standing_of self.n (Blocks.free map.now) self.entry) }
+    {
+        if !self.card_fits(cardlen) {
+            return Err(Refusal::Misfit);
+        }
+        if !shape_fits(self.n, self.free, map.len()) {
+            return Err(Refusal::Misfit);
+        }
+        if !sheets_fit(self.sheets) {
+            return Err(Refusal::Misfit);
+        }
+        if self.sheets <= self.sheet as usize {
+            return Err(Refusal::NoSuchSheet);
+        }
+        unless_damaged(decode(self.n, map, self.entry))
+    }
+
+    // The same rows behind 21, for the call's name (document 02 (n)), inline as they are.
+    #[inline(always)]
+    pub fn enter(self, call: Call, map: &[u64], cardlen: Option<usize>) -> Result<Standing, Refusal>
+        ensures { result ≡ opened_for (turned_away self.role (call_number call))
+            (lent_fits self.n self.free (length map.now) self.sheets cardlen) self.sheets self.sheet
+            (standing_of self.n (Blocks.free map.now) self.entry) }
+    {
+        permit(self.role, call)?;
+        self.open(map, cardlen)
+    }
 }
 
-// The same rows behind 21, for a role and the call's name (document 02 (n)).
-pub fn enter_sheet(
-    role: u32,
-    call: u32,
-    n: u32,
-    free: u32,
-    map: &[u64],
-    c: usize,
-    sheet: u32,
-    entry: Entry,
-) -> Opened
-    ensures { result ≡ opened_for (turned_away role call) (shape_fits n free (length map.now) && sheets_fit c) c sheet
-        (standing_of n (Blocks.free map.now) entry) }
+// Row 21, of one who may not make the call.
+pub fn permit(role: u32, call: Call) -> Result<(), Refusal>
+    ensures { MatchResult result (λ u. turned_away role (call_number call) ≡ false)
+        (λ why. (turned_away role (call_number call) ≡ true) × (why ≡ Refusal.TurnedAway)) }
 {
-    if turned_away(role, call) {
-        return Opened::Refused(TURNED_AWAY);
+    if call.turned_away(role) {
+        return Err(Refusal::TurnedAway);
     }
-    open_sheet(n, free, map, c, sheet, entry)
-}
-
-// The same of a call that is lent the card.
-pub fn enter_on(
-    role: u32,
-    call: u32,
-    n: u32,
-    free: u32,
-    map: &[u64],
-    cardlen: usize,
-    c: usize,
-    sheet: u32,
-    entry: Entry,
-) -> Opened
-    ensures { result ≡ opened_for (turned_away role call)
-        (shape_fits n free (length map.now) && sheets_fit c && eqb cardlen (512 * n)) c sheet
-        (standing_of n (Blocks.free map.now) entry) }
-{
-    if turned_away(role, call) {
-        return Opened::Refused(TURNED_AWAY);
-    }
-    open_on(n, free, map, cardlen, c, sheet, entry)
-}
-
-// The number of the refusal.
-pub fn refused_row(opened: Opened) -> u32
-    ensures { result ≡ refused_row opened }
-{
-    match opened {
-        Opened::Refused(row) => row,
-        Opened::Stands(_) => 0,
-    }
+    Ok(())
 }

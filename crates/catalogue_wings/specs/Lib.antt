@@ -1,3 +1,2 @@
--- What a reader must believe: the wing of a sheet, and what it holds (`Wings`). `Passes` says how the sum is made.
+-- What a reader must believe: the wing of a sheet, and what it holds.
 pub mod Wings
-pub mod Passes

@@ -9,42 +9,30 @@ use Rattle.catalogue.specs.Entries.{entry_at}
 use Rattle.catalogue.specs.declared.Entry.{Entry}
 use Rattle.closing_moves.specs.Moved.{sourced, moved_from, moved}
 use Rattle.closing_moves.proofs.Moved.{sourced_length, sourced_same, sourced_twice, moved_in, moved_before, moved_after}
-use Rattle.closing_moves.proofs.Moved.{moved_none}
 use Rattle.image_soundness.proofs.Covers.{decide, run_in, in_run_lem, run_out, run_before}
 use Rattle.closing.specs.Closed.{below, source}
-use Rattle.closing.specs.Rounds.{moved_card}
-use Rattle.closing.specs.declared.Pick.{Pick}
+use Rattle.closing.specs.Rounds.{Nearest, moved_extent, moved_card}
 use Rattle.closing.proofs.Below.{below_adds}
 use Rattle.closing.proofs.Members.{Member, same_extent, at_member}
 use Rattle.closing.proofs.Packing.{Placed, Gap, Next, Last, moves-down}
 
 -- ---- what the tests of a move decide
-module _ (card : List ℕ) (t : Pick) where
+module _ (card : List ℕ) (at : ℕ) (e : Entry) where
   abbrev tests : Bool → Bool → List ℕ
-  tests a b = cond (a && b) (moved card t.at t.start t.length) card
+  tests a b = cond (a && b) (moved card at e.start e.length) card
 
-  pub not_up : t.start < t.at → card ≡ moved_card card t
-  unfolding moved_card
-  not_up h = sym (ap (λ (a : Bool). tests a (leb (512 * (t.start + t.length)) (length card))) (lt-leb t.at t.start h))
+  pub not_up : e.start < at → card ≡ moved_extent card at e
+  unfolding moved_extent
+  not_up h = sym (ap (λ (a : Bool). tests a (leb (512 * (e.start + e.length)) (length card))) (lt-leb at e.start h))
 
-  module _ (down : t.at ≤ t.start) where
-    pub not-outside : length card < 512 * (t.start + t.length) → card ≡ moved_card card t
-    unfolding moved_card
-    not-outside h = sym (ap₂ tests (le-leb t.at t.start down) (lt-leb (512 * (t.start + t.length)) (length card) h))
+  module _ (down : at ≤ e.start) where
+    pub not-outside : length card < 512 * (e.start + e.length) → card ≡ moved_extent card at e
+    unfolding moved_extent
+    not-outside h = sym (ap₂ tests (le-leb at e.start down) (lt-leb (512 * (e.start + e.length)) (length card) h))
 
-    pub moves : 512 * (t.start + t.length) ≤ length card → moved card t.at t.start t.length ≡ moved_card card t
-    unfolding moved_card
-    moves h = sym (ap₂ tests (le-leb t.at t.start down) (le-leb (512 * (t.start + t.length)) (length card) h))
-
--- no block moves where there is no extent
-pub moves_none : (card : List ℕ) (t : Pick) → t.length ≡ 0 → moved_card card t ≡ card
-unfolding moved_card
-moves_none card t z =
-    by (leb t.at t.start && leb (512 * (t.start + t.length)) (length card))
-  where
-    by : (b : Bool) → cond b (moved card t.at t.start t.length) card ≡ card
-    by true = ap (moved card t.at t.start) z ∙ sym (moved_none card t.at t.start)
-    by false = refl
+    pub moves : 512 * (e.start + e.length) ≤ length card → moved card at e.start e.length ≡ moved_extent card at e
+    unfolding moved_extent
+    moves h = sym (ap₂ tests (le-leb at e.start down) (le-leb (512 * (e.start + e.length)) (length card) h))
 
 -- ---- where the bytes of a block come from, once the extents that start before t are packed
 module _ (all : List Entry) where
@@ -134,7 +122,7 @@ module _ (all : List Entry) where
       out z = both (ltb e.start t) (in_run (below all e.start) e.length b) (no_run z)
 
   module _ (n t : ℕ) (p : Placed n all) (small : n < 4294967295) (few : length all < 4294967295) (gap : Gap all t)
-      (r : Pick) (x : Next all t r) where
+      (r : Nearest) (x : Next all t r) where
     abbrev which : Entry
     which = entry_at all x.place
 
@@ -246,22 +234,18 @@ module _ (all : List Entry) where
         (order (j / 512) (below all t))
 
     pub next-card : (card : List ℕ) → 512 * n ≤ length card
-        → moved_card (sourced (source_to t all) card) r ≡ sourced (source_to t' all) card
-    unfolding moved
+        → moved_card (sourced (source_to t all) card) (below all t) r ≡ sourced (source_to t' all) card
+    unfolding moved moved_card
     next-card card fits =
         let inside : which.start + which.length ≤ n = p.inside which member in
         let down : below all t ≤ which.start = moves-down all n t p small few gap r x in
-        let c : List ℕ = sourced (source_to t all) card in
-        let a : r.at ≡ below all t = x.at_same in
-        let s : r.start ≡ which.start = x.its_start in
-        let l : r.length ≡ which.length = x.its_length in
-        sym (moves (sourced (source_to t all) card) r (omega arith)
+        ap (moved_card (sourced (source_to t all) card) (below all t)) x.is
+        ∙ sym (moves (sourced (source_to t all) card) (below all t) which down
         (omega (arith, sourced_length card (source_to t all))))
-        ∙ ap₂ (λ (y z : ℕ). sourced (moved_from y z r.length) (sourced (source_to t all) card)) a s
-        ∙ ap (λ (z : ℕ). sourced (moved_from (below all t) which.start z) (sourced (source_to t all) card)) l
         ∙ sourced_twice card (source_to t all) (moved_from (below all t) which.start which.length) (within card fits)
         ∙ sourced_same card (λ b. source_to t all (moved_from (below all t) which.start which.length b)) (source_to t' all)
         composed
 
-  pub last_card : (t : ℕ) (r : Pick) → Last all t r → (card : List ℕ) → moved_card card r ≡ card
-  last_card t r x card = moves_none card r x.no_length
+  pub last_card : (t : ℕ) (r : Nearest) → Last all t r → (card : List ℕ) → moved_card card (below all t) r ≡ card
+  unfolding moved_card
+  last_card t r x card = ap (moved_card card (below all t)) x.is

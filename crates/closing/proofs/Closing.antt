@@ -1,18 +1,17 @@
 -- `rounds_close`: of a sound state as many rounds as there are entries make the closed entries and the closed card, and end
 -- where all extents end.
 -- Assumes nothing.
-use Rattle.std.proofs.Common.{◌≡◌, ℕ, zero, suc, ◌+◌, ◌-◌, ◌*◌, ◌<◌, ◌≤◌, List, map, length, set, sym, ap, ◌∙◌, ap₂, ⊎_elim}
+use Rattle.std.proofs.Common.{◌≡◌, ℕ, zero, suc, ◌+◌, ◌-◌, ◌*◌, ◌%◌, ◌<◌, ◌≤◌, List, map, length, sym, ap, ◌∙◌, ap₂, ⊎_elim}
 use Rattle.std.proofs.Common.{arith}
-use Rattle.catalogue.specs.Entries.{entry_at, held, slot_at}
+use Rattle.catalogue.specs.Entries.{entry_at, held}
 use Rattle.catalogue.specs.declared.Entry.{Entry}
 use Rattle.closing_moves.specs.Moved.{sourced}
 use Rattle.closing_moves.proofs.Moved.{sourced_self, sourced_same}
 use Rattle.image_soundness.specs.Sound.{State}
 use Rattle.image_soundness.proofs.WhenSound.{Sound}
 use Rattle.closing.specs.Closed.{below, closed_entries, source, closed_card}
-use Rattle.closing.specs.Rounds.{first_pick, nearest_of, moved_card, sheet_in, restarted, at_after}
+use Rattle.closing.specs.Rounds.{Nearest, nearest_of, moved_card, moved_entries, at_after}
 use Rattle.closing.specs.Rounds.{rounds_at, rounds_entries, rounds_card}
-use Rattle.closing.specs.declared.Pick.{Pick}
 use Rattle.closing.proofs.Rounded.{at_none, entries_none, card_none, at_more, entries_more, card_more}
 use Rattle.closing.proofs.Below.{below_zero, below_all, waiting, waiting_most, waiting_less, none_waits, waits_none}
 use Rattle.closing.proofs.Members.{at_member}
@@ -20,11 +19,6 @@ use Rattle.closing.proofs.Placing.{placed}
 use Rattle.closing.proofs.Packing.{Placed, up_to, none_packed, all_packed, Gap, first_gap, Next, Last, next-or-last}
 use Rattle.closing.proofs.Packing.{moves-down, next-at, next-gap, next-entries, last-entries}
 use Rattle.closing.proofs.Cards.{source_to, at_first, at_last, next-card, last_card}
-
--- where the moved extents end, if that is a number of 32 bits
-at_moves : (t : Pick) → t.at + t.length < 4294967296 → at_after t ≡ t.at + t.length
-unfolding at_after
-at_moves t h = omega arith
 
 pub record Made (all : List Entry) (card : List ℕ) : Type 0 where
   pub ends : rounds_at all card (length all) 0 ≡ held all
@@ -55,57 +49,57 @@ module _ (n : ℕ) (all : List Entry) (card : List ℕ) (p : Placed n all) (smal
   }
 
   module _ (k : ℕ) (s : Stage k) where
-    abbrev r : Pick
-    r = nearest_of (map (up_to all s.t) all) (first_pick (below all s.t))
+    abbrev end : ℕ
+    end = below all s.t
 
-    same-pick : nearest_of (rounds_entries all card k 0) (first_pick (rounds_at all card k 0)) ≡ r
-    same-pick = ap₂ (λ (es : List Entry) (a : ℕ). nearest_of es (first_pick a)) s.is_entries s.is_at
+    abbrev r : Nearest
+    r = nearest_of (map (up_to all s.t) all) end
 
-    at_next : rounds_at all card (suc k) 0 ≡ at_after r
-    at_next = at_more k all card 0 ∙ ap at_after same-pick
+    at_next : rounds_at all card (suc k) 0 ≡ at_after end r
+    at_next = at_more k all card 0 ∙ ap₂ (λ (es : List Entry) (a : ℕ). at_after a (nearest_of es a)) s.is_entries s.is_at
 
-    abbrev packed : List Entry → Pick → List Entry
-    packed es q = set es (sheet_in q) (restarted q (slot_at es (sheet_in q)))
+    entries_next : rounds_entries all card (suc k) 0 ≡ moved_entries (map (up_to all s.t) all) end r
+    entries_next =
+        entries_more k all card 0
+        ∙ ap₂ (λ (es : List Entry) (a : ℕ). moved_entries es a (nearest_of es a)) s.is_entries s.is_at
 
-    entries_next : rounds_entries all card (suc k) 0 ≡ packed (map (up_to all s.t) all) r
-    entries_next = entries_more k all card 0 ∙ ap₂ packed s.is_entries same-pick
-
-    card-next : rounds_card all card (suc k) 0 ≡ moved_card (sourced (source_to all s.t all) card) r
-    card-next = card_more k all card 0 ∙ ap₂ moved_card s.is_card same-pick
+    card-next : rounds_card all card (suc k) 0 ≡ moved_card (sourced (source_to all s.t all) card) end r
+    card-next =
+        card_more k all card 0 ∙ ap (λ (l : List ℕ). moved_card l (rounds_at all card k 0)
+        (nearest_of (rounds_entries all card k 0) (rounds_at all card k 0))) s.is_card
+        ∙ ap₂ (λ (es : List Entry) (a : ℕ). moved_card (sourced (source_to all s.t all) card) a (nearest_of es a))
+        s.is_entries s.is_at
 
     one_more : Next all s.t r → Stage (suc k)
+    unfolding at_after
     one_more x =
         let e : Entry = entry_at all x.place in
         let m = at_member all x.place x.inside in
         let down : below all s.t ≤ e.start = moves-down all n s.t p small many s.gap r x in
         let inside : e.start + e.length ≤ n = p.inside e m in
-        let a : r.at ≡ below all s.t = x.at_same in
-        let l : r.length ≡ e.length = x.its_length in
         let ends : below all (e.start + 1) ≡ below all s.t + e.length =
         next-at all n s.t p small many s.gap r x in
         let less : waiting all (e.start + 1) + 1 ≤ waiting all s.t = waiting_less all e s.t m x.some x.waits in
-        let sum : r.at + r.length ≡ below all (e.start + 1) = omega arith in
+        let sum : (end + e.length) % 4294967296 ≡ below all (e.start + 1) = omega arith in
         record {
           t = e.start + 1;
           gap = next-gap all n s.t p small many s.gap r x;
           low = omega arith;
-          is_at = at_next ∙ at_moves r (omega arith) ∙ sum;
+          is_at = at_next ∙ ap (at_after end) x.is ∙ sum;
           is_entries = entries_next ∙ next-entries all n s.t p small many s.gap r x;
           is_card = card-next ∙ next-card all n s.t p small many s.gap r x card fits;
           few = omega (arith, s.few);
         }
 
     no_more : Last all s.t r → Stage (suc k)
+    unfolding at_after
     no_more x =
-        let a : r.at ≡ below all s.t = x.at_same in
-        let l : r.length ≡ 0 = x.no_length in
         let none : waiting all s.t ≡ 0 = waits_none all s.t x.none in
-        let sum : r.at + r.length ≡ below all s.t = omega arith in
         record {
           t = s.t;
           gap = s.gap;
           low = s.low;
-          is_at = at_next ∙ at_moves r (omega (arith, s.low)) ∙ sum;
+          is_at = at_next ∙ ap (at_after end) x.is;
           is_entries = entries_next ∙ last-entries all n s.t p small many s.gap r x;
           is_card = card-next ∙ last_card all s.t r x (sourced (source_to all s.t all) card);
           few = omega arith;

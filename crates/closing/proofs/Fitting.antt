@@ -1,10 +1,10 @@
 -- After closing a search finds the first free block if as many blocks are wanted as are free, or fewer, and nothing if more
 -- are.
 -- Assumes nothing.
+use Rattle.std.specs.Prelude.{Some, None}
 use Rattle.std.proofs.Common.{◌≡◌, ℕ, ◌+◌, ◌*◌, ◌<◌, ◌≤◌, Bool, true, cond, leb, length, sym, ap, ◌∙◌, ⊎_elim, arith, le-leb}
 use borrow.Author.Tests.{lt-leb}
 use Rattle.map_blocks.specs.Blocks.{free, fit, least_fit}
-use Rattle.map_blocks.specs.declared.Found.TheVariants.{At, Nothing}
 use Rattle.laws.proofs.Bools.{clash, order}
 use Rattle.map_blocks.proofs.Fits.{Fits, is_fit, no_fit, on_one}
 use Rattle.map_blocks.proofs.Least.{least_at, least_none}
@@ -40,16 +40,16 @@ module _ (s : State) (p : Sound s) (room : s.blocks ≤ 64 * length s.map) (k : 
         placed = on_one h;
       })
 
-  pub closed_fit : least_fit g 0 n 1 k ≡ cond (leb k s.spare) (At h) Nothing
+  pub closed_fit : least_fit g 0 n 1 k ≡ cond (leb k s.spare) (Some h) None
   unfolding least_fit
   closed_fit =
       let sum : h + s.spare ≡ n = closed_spare s p room in
       ⊎_elim
       (λ (u : s.spare < k).
       least_none (fit g 0 n 1 k) 0 n (λ t lo hi. no_fit g 0 n 1 k t (λ w. omega (arith, fit_to t w, w.high)))
-      ∙ ap (λ (b : Bool). cond b (At h) Nothing) (sym (lt-leb k s.spare u)))
+      ∙ ap (λ (b : Bool). cond b (Some h) None) (sym (lt-leb k s.spare u)))
       (λ (u : k ≤ s.spare).
       least_at (fit g 0 n 1 k) 0 n h (omega arith) (omega arith) (to_fit (omega arith))
       (λ t lo hi. no_fit g 0 n 1 k t (λ w. omega (arith, fit_to t w)))
-      ∙ ap (λ (b : Bool). cond b (At h) Nothing) (sym (le-leb k s.spare u)))
+      ∙ ap (λ (b : Bool). cond b (Some h) None) (sym (le-leb k s.spare u)))
       (order s.spare k)

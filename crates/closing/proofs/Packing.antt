@@ -1,19 +1,19 @@
 -- The entries while closing goes: those that start before t have moved, which is called packed here, and the others are as they
 -- were. What one round does to them.
 -- Assumes nothing.
-use Rattle.std.proofs.Common.{◌≡◌, ℕ, ◌+◌, ◌<◌, ◌≤◌, Bool, true, false, cond, ltb, ◌⊎◌, List, map, length, set, sym, refl, ap}
+use Rattle.std.proofs.Common.{◌≡◌, ℕ, ◌+◌, ◌<◌, ◌≤◌, Bool, true, false, cond, ltb, ◌⊎◌, List, map, length, set}
+use Rattle.std.proofs.Common.{sym, refl, ap, subst}
 use Rattle.std.proofs.Common.{◌∙◌, ap₂, inl, inr, ⊎_elim, arith, le-ltb, lt-ltb}
-use lib.ListN.{length-map}
 use Rattle.laws.proofs.Bools.{order}
-use Rattle.catalogue.specs.Entries.{entry_at, slot_at}
+use Rattle.catalogue.specs.Entries.{entry_at}
 use Rattle.catalogue.specs.declared.Entry.{Entry}
 use Rattle.closing.specs.Closed.{below, closed_entry, closed_entries}
-use Rattle.closing.specs.Rounds.{first_pick, nearest_of, sheet_in, restarted}
-use Rattle.closing.specs.declared.Pick.{Pick}
+use Rattle.std.specs.Prelude.{Some, None}
+use Rattle.closing.specs.Rounds.{Nearest, nearest_of, restarted, moved_entries}
 use Rattle.closing.proofs.Below.{below_zero, below_adds, below_same, below_one}
-use Rattle.closing.proofs.Members.{Member, Off, Apart, map_same, map_self, at_member, map_at, set_past, set_one}
+use Rattle.closing.proofs.Members.{Member, Off, Apart, map_same, map_self, at_member, set_one}
 use Rattle.closing.proofs.Members.{starts_after}
-use Rattle.closing.proofs.Picks.{Kept, Found, Picked, nearest_found}
+use Rattle.closing.proofs.Picks.{Falls, Found, Picked, nearest_found}
 
 -- Entries that can be packed in a card of n blocks: their extents lie inside it and apart, and one without blocks starts at 0.
 pub record Placed (n : ℕ) (es : List Entry) : Type 0 where
@@ -72,22 +72,17 @@ module _ (all : List Entry) where
   first_gap e m l h = let z : below all 0 ≡ 0 = below_zero all in omega arith
 
   -- What is packed next, where those that start before t are packed: the entry at a place.
-  pub record Next (t : ℕ) (r : Pick) : Type 0 where
-    pub at_same : r.at ≡ below all t
+  pub record Next (t : ℕ) (r : Nearest) : Type 0 where
     pub place : ℕ
     pub inside : place < length all
-    pub its_sheet : r.sheet ≡ place
+    pub is : r ≡ Some (place, entry_at all place)
     pub some : 1 ≤ (entry_at all place).length
     pub waits : t ≤ (entry_at all place).start
-    pub its_start : r.start ≡ (entry_at all place).start
-    pub its_length : r.length ≡ (entry_at all place).length
     pub least : (e : Entry) → Member e all → 1 ≤ e.length → t ≤ e.start → (entry_at all place).start ≤ e.start
     pub lands : below all (entry_at all place).start ≡ below all t
 
-  pub record Last (t : ℕ) (r : Pick) : Type 0 where
-    pub at_same : r.at ≡ below all t
-    pub no_length : r.length ≡ 0
-    pub no_sheet : r.sheet ≡ 4294967295
+  pub record Last (t : ℕ) (r : Nearest) : Type 0 where
+    pub is : r ≡ None
     pub none : (e : Entry) → Member e all → 1 ≤ e.length → e.start < t
 
   module _ (n t : ℕ) (p : Placed n all) (small : n < 4294967295) (few : length all < 4294967295) (gap : Gap t) where
@@ -106,57 +101,51 @@ module _ (all : List Entry) where
     as_is : (e : Entry) → t ≤ e.start → (up_to t e).start ≡ e.start
     as_is e h = ap (λ (z : Entry). z.start) (other_entry t e h)
 
-    abbrev q : Pick
-    q = first_pick (below all t)
+    abbrev r₀ : Nearest
+    r₀ = nearest_of (map (up_to t) all) (below all t)
 
-    abbrev r₀ : Pick
-    r₀ = nearest_of (map (up_to t) all) q
-
-    found : Found (up_to t) all q r₀
-    found = nearest_found (up_to t) all q (omega arith)
+    found : Found (up_to t) (below all t) all 0 None r₀
+    found = nearest_found (up_to t) (below all t) all 0 None
 
     -- no extent that waits starts before it
-    near : (e : Entry) → Member e all → 1 ≤ e.length → t ≤ e.start → r₀.start ≤ e.start
+    near : (e : Entry) → Member e all → 1 ≤ e.length → t ≤ e.start → Falls r₀ e.start
     near e m l h =
-        omega (arith, as_is e h, found.least e m (omega (arith, up_to_length t e)) (omega (arith, as_is e h, gap e m l h)))
+        subst (Falls r₀) (as_is e h)
+        (found.least e m (omega (arith, up_to_length t e)) (omega (arith, as_is e h, gap e m l h)))
 
-    is_last : Kept (up_to t) q r₀ → Last t r₀
+    is_last : r₀ ≡ None → Last t r₀
     is_last k = record {
-      at_same = found.at_same;
-      no_length = k.same_length;
-      no_sheet = k.same_sheet;
+      is = k;
       none = λ e m l. ⊎_elim
           (λ (lt : e.start < t). lt)
-          (λ (ge : t ≤ e.start).
-          absurd (omega (arith, near e m l ge, k.same_start, p.inside e m)))
+          (λ (ge : t ≤ e.start). absurd (subst (λ (r : Nearest). Falls r e.start) k (near e m l ge)))
           (order e.start t);
     }
 
-    is-next : Picked (up_to t) all q r₀ → Next t r₀
+    is-next : Picked (up_to t) (below all t) all 0 r₀ → Next t r₀
     is-next k =
         let e : Entry = entry_at all k.place in
         let o = not-packed e (at_member all k.place k.inside) k.some k.after in
-        let s : r₀.start ≡ e.start = k.its_start ∙ ap (λ (z : Entry). z.start) o.1 in
+        let i : 0 + k.place ≡ k.place = omega arith in
+        let is : r₀ ≡ Some (k.place, entry_at all k.place) =
+        k.is ∙ ap₂ (λ (j : ℕ) (y : Entry). Some (j, y)) i o.1 in
         let least : (y : Entry) → Member y all → 1 ≤ y.length → t ≤ y.start → e.start ≤ y.start =
-        λ y m l h. omega (arith, s, near y m l h) in
+        λ y m l h. subst (λ (r : Nearest). Falls r y.start) is (near y m l h) in
         record {
-          at_same = found.at_same;
           place = k.place;
           inside = k.inside;
-          its_sheet = omega (arith, k.its_sheet);
+          is = is;
           some = omega (arith, k.some, up_to_length t e);
           waits = o.0;
-          its_start = s;
-          its_length = k.its_length ∙ up_to_length t e;
           least = least;
           lands = below_same all t e.start o.0 least;
         }
 
-    pub next-or-last : Next t (nearest_of (map (up_to t) all) (first_pick (below all t)))
-        ⊎ Last t (nearest_of (map (up_to t) all) (first_pick (below all t)))
+    pub next-or-last : Next t (nearest_of (map (up_to t) all) (below all t))
+        ⊎ Last t (nearest_of (map (up_to t) all) (below all t))
     next-or-last = ⊎_elim (λ k. inr (is_last k)) (λ k. inl (is-next k)) found.found
 
-    module _ (r : Pick) (x : Next t r) where
+    module _ (r : Nearest) (x : Next t r) where
       abbrev which : Entry
       which = entry_at all x.place
 
@@ -199,23 +188,18 @@ module _ (all : List Entry) where
           later y m z ge (inr u) = absurd (omega (arith, x.least y m z ge))
 
       -- the entry that is stored is the packed one
-      stored : restarted r (slot_at (map (up_to t) all) r.sheet) ≡ up_to (which.start + 1) which
+      stored : restarted (below all t) which ≡ up_to (which.start + 1) which
       stored =
-          let found-there : entry_at (map (up_to t) all) r.sheet ≡ which =
-          ap (entry_at (map (up_to t) all)) x.its_sheet ∙ map_at (up_to t) all x.place x.inside
-          ∙ other_entry t which x.waits in
-          let at : r.at ≡ below all which.start = x.at_same ∙ sym x.lands in
-          ap₂ (λ (e : Entry) (s : ℕ). record { mark = e.mark; start = s; length = e.length }) found-there at
+          ap (λ (s : ℕ). record { mark = which.mark; start = s; length = which.length }) (sym x.lands)
           ∙ sym (packed_entry (which.start + 1) which (omega arith))
 
-      pub next-entries : set (map (up_to t) all) (sheet_in r) (restarted r (slot_at (map (up_to t) all) (sheet_in r)))
-          ≡ map (up_to (which.start + 1)) all
+      pub next-entries : moved_entries (map (up_to t) all) (below all t) r ≡ map (up_to (which.start + 1)) all
+      unfolding moved_entries
       next-entries =
-          ap₂ (set (map (up_to t) all)) x.its_sheet stored
+          ap (moved_entries (map (up_to t) all) (below all t)) x.is
+          ∙ ap (set (map (up_to t) all) x.place) stored
           ∙ set_one (up_to t) (up_to (which.start + 1)) all x.place x.inside p.apart others
 
-    pub last-entries : (r : Pick) → Last t r
-        → set (map (up_to t) all) (sheet_in r) (restarted r (slot_at (map (up_to t) all) (sheet_in r))) ≡ map (up_to t) all
-    last-entries r x =
-        set_past (map (up_to t) all) r.sheet (restarted r (slot_at (map (up_to t) all) r.sheet))
-        (omega (arith, length-map all (up_to t), x.no_sheet))
+    pub last-entries : (r : Nearest) → Last t r → moved_entries (map (up_to t) all) (below all t) r ≡ map (up_to t) all
+    unfolding moved_entries
+    last-entries r x = ap (moved_entries (map (up_to t) all) (below all t)) x.is

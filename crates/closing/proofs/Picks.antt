@@ -1,161 +1,143 @@
 -- The extent that moves next: of those that start at or after the end of those that have moved, the one with the least start,
 -- and its place among the entries. The entries are those of a list that f has changed.
 -- Assumes nothing.
-use Rattle.std.proofs.Common.{◌≡◌, ℕ, suc, ◌+◌, ◌%◌, ◌<◌, ◌≤◌, Bool, true, false, cond, ◌&&◌, ltb, leb, ◌⊎◌, List, [], ◌∷◌, map}
-use Rattle.std.proofs.Common.{length, sym, refl, ap, subst, inl, inr, ⊎_elim, arith, ltb-true, lt-ltb, le-leb, leb-true}
-use Rattle.laws.proofs.Bools.{and_left, and_right, and_both, clash, order}
+use Rattle.std.proofs.Common.{◌≡◌, ℕ, suc, ◌+◌, ◌<◌, ◌≤◌, Bool, true, false, cond, ◌&&◌, leb, ◌⊎◌, List, [], ◌∷◌}
+use Rattle.std.proofs.Common.{length, sym, refl, ap, ◌∙◌, subst, inl, inr, ⊎_elim, arith, ltb-true, ltb-false, le-leb, leb-true}
+use Rattle.std.proofs.Common.{map}
+use Rattle.std.specs.Prelude.{Some, None}
+use Rattle.laws.proofs.Bools.{and_left, and_right, and_both, clash}
 use Rattle.catalogue.specs.Entries.{entry_at}
 use Rattle.catalogue.specs.declared.Entry.{Entry}
-use Rattle.closing.specs.Rounds.{pick, is_nearer, nearer_of, nearest_of}
-use Rattle.closing.specs.declared.Pick.{Pick}
+use Rattle.closing.specs.Rounds.{Nearest, starts_behind, is_nearer, nearer_of, nearest_from}
 use Rattle.closing.proofs.Members.{Member}
 
+-- something is found that starts at s or before
+abbrev pub Falls : Nearest → ℕ → Type 0
+Falls None s = ⊥
+Falls (Some p) s = p.1.start ≤ s
+
+behind_falls : (t : Nearest) (e : Entry) (s : ℕ) → starts_behind t e ≡ true → Falls t s → e.start ≤ s
+behind_falls None e s h l = absurd l
+behind_falls (Some p) e s h l = let b : e.start < p.1.start = ltb-true e.start p.1.start h in omega arith
+
+not_behind : (t : Nearest) (e : Entry) → starts_behind t e ≡ false → Falls t e.start
+not_behind None e h = absurd (clash true refl h)
+not_behind (Some p) e h = ltb-false e.start p.1.start h
+
 -- what the test shows
-module _ (t : Pick) (e : Entry) where
+module _ (at : ℕ) (t : Nearest) (e : Entry) where
   record Nearer : Type 0 where
     some : 1 ≤ e.length
-    after : t.at ≤ e.start
-    before : e.start < t.start
+    after : at ≤ e.start
+    before : starts_behind t e ≡ true
 
-  nearer_to : is_nearer t e ≡ true → Nearer
+  nearer_to : is_nearer at t e ≡ true → Nearer
   unfolding is_nearer
   nearer_to h =
       let a : Bool = leb 1 e.length in
-      let b : Bool = leb t.at e.start in
-      let c : Bool = ltb e.start t.start in
+      let b : Bool = leb at e.start in
+      let c : Bool = starts_behind t e in
       let ab = and_left (a && b) c h in
       record {
         some = leb-true 1 e.length (and_left a b ab);
-        after = leb-true t.at e.start (and_right a b ab);
-        before = ltb-true e.start t.start (and_right (a && b) c h);
+        after = leb-true at e.start (and_right a b ab);
+        before = and_right (a && b) c h;
       }
 
-  to_nearer : Nearer → is_nearer t e ≡ true
+  -- an entry that is passed over although it waits starts at what is found or behind it
+  not_nearer : is_nearer at t e ≡ false → 1 ≤ e.length → at ≤ e.start → Falls t e.start
   unfolding is_nearer
-  to_nearer w =
-      and_both (leb 1 e.length && leb t.at e.start) (ltb e.start t.start)
-      (and_both (leb 1 e.length) (leb t.at e.start) (le-leb 1 e.length w.some)
-      (le-leb t.at e.start w.after))
-      (lt-ltb e.start t.start w.before)
+  not_nearer h s a = by (starts_behind t e) refl
+    where
+      by : (b : Bool) → starts_behind t e ≡ b → Falls t e.start
+      by true z =
+          absurd (clash (leb 1 e.length && leb at e.start && starts_behind t e)
+          (and_both (leb 1 e.length && leb at e.start) (starts_behind t e)
+          (and_both (leb 1 e.length) (leb at e.start) (le-leb 1 e.length s) (le-leb at e.start a)) z) h)
+      by false z = not_behind t e z
 
-  not_nearer : is_nearer t e ≡ false → 1 ≤ e.length → t.at ≤ e.start → t.start ≤ e.start
-  not_nearer h s a =
-      ⊎_elim
-      (λ (l : e.start < t.start). absurd (clash (is_nearer t e) (to_nearer (record { some = s; after = a; before = l })) h))
-      (λ (l : t.start ≤ e.start). l)
-      (order e.start t.start)
-
-  abbrev next : ℕ
-  next = (t.next + 1) % 4294967296
-
-  abbrev taken : Pick
-  taken = pick t.at e.start e.length t.next next
-
-  abbrev passed : Pick
-  passed = pick t.at t.start t.length t.sheet next
-
-  pub is_nearer_lem : is_nearer t e ≡ true → taken ≡ nearer_of t e
+  pub taken : (sheet : ℕ) → is_nearer at t e ≡ true → nearer_of at sheet t e ≡ Some (sheet, e)
   unfolding nearer_of
-  is_nearer_lem h = sym (ap (λ (b : Bool). cond b taken passed) h)
+  taken sheet h = ap (λ (b : Bool). cond b (Some (sheet, e)) t) h
 
-  pub is_not : is_nearer t e ≡ false → passed ≡ nearer_of t e
+  pub passed : (sheet : ℕ) → is_nearer at t e ≡ false → nearer_of at sheet t e ≡ t
   unfolding nearer_of
-  is_not h = sym (ap (λ (b : Bool). cond b taken passed) h)
+  passed sheet h = ap (λ (b : Bool). cond b (Some (sheet, e)) t) h
 
-module _ (f : Entry → Entry) where
+module _ (f : Entry → Entry) (at : ℕ) where
   -- it is the entry at a place, from which its sheet is counted
-  pub record Picked (es : List Entry) (p r : Pick) : Type 0 where
+  pub record Picked (es : List Entry) (sheet : ℕ) (r : Nearest) : Type 0 where
     pub place : ℕ
     pub inside : place < length es
-    pub its_sheet : r.sheet ≡ p.next + place
+    pub is : r ≡ Some (sheet + place, f (entry_at es place))
     pub some : 1 ≤ (f (entry_at es place)).length
-    pub after : p.at ≤ (f (entry_at es place)).start
-    pub its_start : r.start ≡ (f (entry_at es place)).start
-    pub its_length : r.length ≡ (f (entry_at es place)).length
+    pub after : at ≤ (f (entry_at es place)).start
 
-  pub record Kept (p r : Pick) : Type 0 where
-    pub same_start : r.start ≡ p.start
-    pub same_length : r.length ≡ p.length
-    pub same_sheet : r.sheet ≡ p.sheet
+  pub record Found (es : List Entry) (sheet : ℕ) (t r : Nearest) : Type 0 where
+    pub found : (r ≡ t) ⊎ Picked es sheet r
+    pub least : (e : Entry) → Member e es → 1 ≤ (f e).length → at ≤ (f e).start → Falls r (f e).start
+    pub falls : (s : ℕ) → Falls t s → Falls r s
 
-  pub record Found (es : List Entry) (p r : Pick) : Type 0 where
-    pub at_same : r.at ≡ p.at
-    pub found : Kept p r ⊎ Picked es p r
-    pub least : (e : Entry) → Member e es → 1 ≤ (f e).length → p.at ≤ (f e).start → r.start ≤ (f e).start
-    pub falls : r.start ≤ p.start
-
-  module _ (x : Entry) (es : List Entry) (p r : Pick) where
+  module _ (x : Entry) (es : List Entry) (sheet : ℕ) (t r : Nearest) where
     -- a place of the rest is one further in the whole
-    further : (q : Pick) → q.at ≡ p.at → q.next ≡ p.next + 1 → Picked es q r → Picked (x ∷ es) p r
-    further q a n k = record {
-      place = suc k.place;
-      inside = omega (arith, k.inside);
-      its_sheet = omega (arith, k.its_sheet, n);
-      some = k.some;
-      after = omega (arith, k.after, a);
-      its_start = k.its_start;
-      its_length = k.its_length;
-    }
-
-    on-taken : p.next + 1 < 4294967296 → is_nearer p (f x) ≡ true → Found es (taken p (f x)) r → Found (x ∷ es) p r
-    on-taken small h n =
-        let w : Nearer p (f x) = nearer_to p (f x) h in
+    further : Picked es (suc sheet) r → Picked (x ∷ es) sheet r
+    further k =
+        let n : suc sheet + k.place ≡ sheet + suc k.place = omega arith in
         record {
-          at_same = n.at_same;
-          found = inr (⊎_elim
-              (λ (k : Kept (taken p (f x)) r). record {
-                place = 0;
-                inside = omega arith;
-                its_sheet = omega (arith, k.same_sheet);
-                some = w.some;
-                after = w.after;
-                its_start = k.same_start;
-                its_length = k.same_length;
-              })
-              (λ (k : Picked es (taken p (f x)) r). further (taken p (f x)) refl (omega arith) k)
-              n.found);
-          least = λ e m s l. ⊎_elim
-              (λ (i : x ≡ e). subst (λ (z : Entry). r.start ≤ (f z).start) i n.falls)
-              (λ (i : Member e es). n.least e i s l)
-              m;
-          falls = omega (arith, n.falls, w.before);
+          place = suc k.place;
+          inside = omega (arith, k.inside);
+          is = k.is ∙ ap (λ (i : ℕ). Some (i, f (entry_at es k.place))) n;
+          some = k.some;
+          after = k.after;
         }
 
-    on-passed : p.next + 1 < 4294967296 → is_nearer p (f x) ≡ false → Found es (passed p (f x)) r → Found (x ∷ es) p r
-    on-passed small h n = record {
-      at_same = n.at_same;
-      found = ⊎_elim
-          (λ (k : Kept (passed p (f x)) r). inl (record {
-            same_start = k.same_start;
-            same_length = k.same_length;
-            same_sheet = k.same_sheet;
-          }))
-          (λ (k : Picked es (passed p (f x)) r). inr (further (passed p (f x)) refl (omega arith) k))
-          n.found;
+    on-taken : is_nearer at t (f x) ≡ true → Found es (suc sheet) (Some (sheet, f x)) r → Found (x ∷ es) sheet t r
+    on-taken h n =
+        let w : Nearer at t (f x) = nearer_to at t (f x) h in
+        let z : sheet ≡ sheet + 0 = omega arith in
+        record {
+          found = inr (⊎_elim
+              (λ (k : r ≡ Some (sheet, f x)). record {
+                place = 0;
+                inside = omega arith;
+                is = k ∙ ap (λ (i : ℕ). Some (i, f x)) z;
+                some = w.some;
+                after = w.after;
+              })
+              (λ (k : Picked es (suc sheet) r). further k)
+              n.found);
+          least = λ e m s l. ⊎_elim
+              (λ (i : x ≡ e). subst (λ (y : Entry). Falls r (f y).start) i (n.falls (f x).start (omega arith)))
+              (λ (i : Member e es). n.least e i s l)
+              m;
+          falls = λ s l. n.falls s (behind_falls t (f x) s w.before l);
+        }
+
+    on-passed : is_nearer at t (f x) ≡ false → Found es (suc sheet) t r → Found (x ∷ es) sheet t r
+    on-passed h n = record {
+      found = ⊎_elim (λ (k : r ≡ t). inl k) (λ (k : Picked es (suc sheet) r). inr (further k)) n.found;
       least = λ e m s l. ⊎_elim
-          (λ (i : x ≡ e). subst (λ (z : Entry). 1 ≤ (f z).length → p.at ≤ (f z).start → r.start ≤ (f z).start) i
-          (λ (s' : 1 ≤ (f x).length) (l' : p.at ≤ (f x).start). omega (arith, n.falls, not_nearer p (f x) h s' l')) s l)
+          (λ (i : x ≡ e). subst (λ (y : Entry). 1 ≤ (f y).length → at ≤ (f y).start → Falls r (f y).start) i
+          (λ (s' : 1 ≤ (f x).length) (l' : at ≤ (f x).start).
+          n.falls (f x).start (not_nearer at t (f x) h s' l')) s l)
           (λ (i : Member e es). n.least e i s l)
           m;
       falls = n.falls;
     }
 
-  pub nearest_found : (es : List Entry) (p : Pick) → p.next + length es < 4294967296 → Found es p (nearest_of (map f es) p)
-  unfolding nearest_of
-  nearest_found [] p small = record {
-    at_same = refl;
-    found = inl (record { same_start = refl; same_length = refl; same_sheet = refl });
-    least = λ e m. absurd m;
-    falls = omega arith;
-  }
-  nearest_found (x ∷ es) p small = by (is_nearer p (f x)) refl (λ t. nearest_found es t)
+  pub nearest_found : (es : List Entry) (sheet : ℕ) (t : Nearest) → Found es sheet t (nearest_from at sheet (map f es) t)
+  unfolding nearest_from
+  nearest_found [] sheet t = record { found = inl refl; least = λ e m. absurd m; falls = λ s l. l }
+  nearest_found (x ∷ es) sheet t = by (is_nearer at t (f x)) refl (λ u. nearest_found es (suc sheet) u)
     where
-      by : (b : Bool) → is_nearer p (f x) ≡ b
-          → ((t : Pick) → t.next + length es < 4294967296 → Found es t (nearest_of (map f es) t))
-          → Found (x ∷ es) p (nearest_of (map f es) (nearer_of p (f x)))
+      by : (b : Bool) → is_nearer at t (f x) ≡ b
+          → ((u : Nearest) → Found es (suc sheet) u (nearest_from at (suc sheet) (map f es) u))
+          → Found (x ∷ es) sheet t (nearest_from at (suc sheet) (map f es) (nearer_of at sheet t (f x)))
       by true h rest =
-          subst (λ (t : Pick). Found (x ∷ es) p (nearest_of (map f es) t)) (is_nearer_lem p (f x) h)
-          (on-taken x es p (nearest_of (map f es) (taken p (f x))) (omega arith) h (rest (taken p (f x)) (omega arith)))
+          subst (λ (u : Nearest). Found (x ∷ es) sheet t (nearest_from at (suc sheet) (map f es) u))
+          (sym (taken at t (f x) sheet h))
+          (on-taken x es sheet t _ h (rest (Some (sheet, f x))))
       by false h rest =
-          subst (λ (t : Pick). Found (x ∷ es) p (nearest_of (map f es) t)) (is_not p (f x) h)
-          (on-passed x es p (nearest_of (map f es) (passed p (f x))) (omega arith) h (rest (passed p (f x)) (omega arith)))
+          subst (λ (u : Nearest). Found (x ∷ es) sheet t (nearest_from at (suc sheet) (map f es) u))
+          (sym (passed at t (f x) sheet h))
+          (on-passed x es sheet t _ h (rest t))

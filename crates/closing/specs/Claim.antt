@@ -1,8 +1,8 @@
 -- What is claimed of a card whose gaps were closed (document 02 (l)).
 -- Assumes nothing.
+use Rattle.std.specs.Prelude.{Some, None}
 use Rattle.std.specs.Prelude.{◌≡◌, ℕ, ◌+◌, ◌<◌, ◌≤◌, true, cond, List, map, length, nat_le, nat_lt}
 use Rattle.map_blocks.specs.Blocks.{free, least_fit}
-use Rattle.map_blocks.specs.declared.Found.TheVariants.{At, Nothing}
 use Rattle.blocks_of_card.specs.Card.{block_of}
 use Rattle.catalogue.specs.Entries.{held, entry_at}
 use Rattle.image_soundness.specs.Sound.{State, coverings, sound}
@@ -32,7 +32,7 @@ pub record Afterwards (s : State) (card : List ℕ) : Type 0 where
   -- A plain search finds no fit exactly when more blocks are wanted than are free; else the first block behind the extents.
   pub fits : (k : ℕ) → 1 ≤ k
       → least_fit (free (closed_map s.entries s.blocks s.map)) 0 s.blocks 1 k
-      ≡ cond (nat_le k s.spare) (At (held s.entries)) Nothing
+      ≡ cond (nat_le k s.spare) (Some (held s.entries)) None
 
 -- Closing twice is closing once: of entries, card and map that a closing left, a closing changes nothing.
 pub record Again (s : State) (card : List ℕ) : Type 0 where

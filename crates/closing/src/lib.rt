@@ -4,48 +4,58 @@
 // taken.
 #![tactic(auto)]
 
-mod extent;
-
-ghost use Rattle.std.specs.Prelude.{◌≡◌};
+ghost use Rattle.std.specs.Prelude.{◌≡◌, ◌*◌, ◌<◌, ◌≤◌, length, IfSome};
+ghost use Rattle.closing.specs.Closed.{first_taken};
+ghost use Rattle.catalogue_standings.specs.Refusals.{number_in};
 ghost use Rattle.roles.specs.Roles as names;
 ghost use Rattle.roles.specs.Roles.{turned_away};
 ghost use Rattle.closing.specs.Effects.{close_number, close_map, close_entries, close_card, close_scratch};
-ghost use Rattle.closing.specs.Rounds.{nearest_of, round_at, round_entries, round_card, rounds_at, rounds_entries};
-ghost use Rattle.closing.specs.Rounds.{rounds_card, first_tally, number_by, rounds_for, map_fits, map_after};
+ghost use Rattle.closing.specs.Rounds.{found_of, nearest_of, moved_extent, round_at, round_entries, round_card, rounds_at};
+ghost use Rattle.closing.specs.Rounds.{rounds_entries, rounds_card};
 ghost use Rattle.closing.specs.Table.{close_fits};
 
-use crate::extent::{at_after, first_pick, move_extent, nearer, restart, sheet_of};
 use block_seals::BLOCK;
-use catalogue::{Entry, find, store};
-use catalogue_standings::opening::BLOCKS;
+use catalogue::Entry;
+use catalogue_standings::Refusal;
+use closing_moves::move_blocks;
 use image::limits::save_fits;
-use image_soundness::Tally;
 use image_windows::test_sound;
 use map_blocks::run::{TAKEN, fresh, mark};
-use roles::{TURNED_AWAY, turned_away};
+use roles::Call;
 
-// The end of the extents that have moved; of the extent that moves next its start, length and sheet; and the sheet whose entry
-// is looked at next.
-#[derive(Clone, Copy)]
-pub struct Pick {
-    pub at: u32,
-    pub start: u32,
-    pub length: u32,
-    pub sheet: u32,
-    pub next: u32,
+// Every extent starts before it.
+const BEHIND: u64 = 4294967296;
+
+// Of the extents that start at or after `at`, where those that have moved end, the sheet of the one with the least start. Its
+// start is kept beside it, since reading it from the entry that is found takes 16 % more instructions; and the test stands in
+// the loop, since a function for it takes 26 % more.
+fn nearest(catalogue: &[Entry], at: u32) -> Option<usize>
+    ensures value { found_of catalogue.now result ≡ nearest_of catalogue.now at }
+    ensures inside { IfSome result (λ sheet. sheet < length catalogue.now) }
+{
+    let mut nearest = None;
+    let mut before = BEHIND;
+    for (sheet, entry) in catalogue.iter().enumerate() {
+        let start = u64::from(entry.start);
+        if entry.length >= 1 && entry.start >= at && start < before {
+            nearest = Some(sheet);
+            before = start;
+        }
+    }
+    nearest
 }
 
-// The extent with the least start at or after the end of those that have moved.
-fn nearest(catalogue: &[Entry], start: Pick) -> Pick
-    ensures { result ≡ nearest_of catalogue.now start }
+// Moves the blocks of an extent down to `at`. Blocks outside the card, and blocks that would move up, stay.
+fn move_extent(card: &mut [u8], at: u32, extent: Entry)
+    ensures { card.new ≡ moved_extent card.old at extent }
 {
-    let mut state = start;
-    let mut i: usize = 0;
-    while i < catalogue.len() {
-        state = nearer(state, catalogue[i]);
-        i += 1;
+    if extent.start < at {
+        return;
     }
-    state
+    if card.len() < BLOCK * ((extent.start as usize) + (extent.length as usize)) {
+        return;
+    }
+    move_blocks(card, at, extent.start, extent.length);
 }
 
 // One round. Gives where the extents that have moved end.
@@ -54,32 +64,33 @@ fn close_next(catalogue: &mut [Entry], card: &mut [u8], at: u32) -> u32
         × (catalogue.new ≡ round_entries catalogue.old card.old at)
         × (card.new ≡ round_card catalogue.old card.old at) }
 {
-    let first = first_pick(at);
-    let pick = nearest(&*catalogue, first);
-    move_extent(card, pick);
-    let sheet = sheet_of(pick);
-    let slot = find(&*catalogue, sheet);
-    let entry = restart(pick, slot);
-    store(catalogue, sheet, entry);
-    at_after(pick)
+    let Some(sheet) = nearest(&*catalogue, at) else {
+        return at;
+    };
+    let extent = catalogue[sheet];
+    move_extent(card, at, extent);
+    catalogue[sheet] = Entry {
+        start: at,
+        ..extent
+    };
+    at.wrapping_add(extent.length)
 }
 
-// All rounds. Gives how many blocks all extents have.
-fn close_rounds(catalogue: &mut [Entry], card: &mut [u8], count: usize, start: u32) -> u32
-    ensures { (result ≡ rounds_at catalogue.old card.old count start)
-        × (catalogue.new ≡ rounds_entries catalogue.old card.old count start)
-        × (card.new ≡ rounds_card catalogue.old card.old count start) }
+// All rounds, as many as there are entries. Gives how many blocks all extents have.
+fn close_rounds(catalogue: &mut [Entry], card: &mut [u8]) -> u32
+    ensures { (result ≡ rounds_at catalogue.old card.old (length catalogue.old) 0)
+        × (catalogue.new ≡ rounds_entries catalogue.old card.old (length catalogue.old) 0)
+        × (card.new ≡ rounds_card catalogue.old card.old (length catalogue.old) 0) }
 {
-    let mut state = start;
-    let mut i: usize = 0;
-    while i < count {
-        state = close_next(catalogue, card, state);
-        i += 1;
+    let mut at = 0;
+    for _ in 0..catalogue.len() {
+        at = close_next(catalogue, card, at);
     }
-    state
+    at
 }
 
 // Row 1.
+#[tactic(auto, unfolding(crate::specs::Table::close_fits))]
 fn close_fits(
     n: u32,
     free: u32,
@@ -91,104 +102,54 @@ fn close_fits(
 ) -> bool
     ensures { result ≡ close_fits n free fits c maplen cardlen scratchlen }
 {
-    if !save_fits(n, free, c, maplen, scratchlen) {
-        return false;
-    }
-    if cardlen != BLOCK * (n as usize) {
-        return false;
-    }
-    fits
+    save_fits(n, free, c, maplen, scratchlen) && cardlen == BLOCK * (n as usize) && fits
 }
 
-// What the entries must make: n less the free count. If row 21 or row 1 holds, nothing is to be tested.
-fn begin(
+// The rows of closing.
+fn verdict(
     role: u32,
     n: u32,
     free: u32,
     fits: bool,
     map: &[u64],
-    count: usize,
+    catalogue: &[Entry],
     card: &[u8],
-    scratch: &[u64],
-) -> Tally
-    ensures { result ≡ first_tally role n free fits map.now count card.now scratch.now }
+    scratch: &mut [u64],
+) -> Result<(), Refusal>
+    ensures { let turned = turned_away role names.close in
+        number_in result ≡ close_number turned n free fits map.now catalogue.now card.now scratch.old }
 {
-    if turned_away(role, roles::CLOSE) {
-        return Tally {
-            left: 0,
-            stop: true,
-        };
+    if Call::Close.turned_away(role) {
+        return Err(Refusal::TurnedAway);
     }
-    if !close_fits(n, free, fits, count, map.len(), card.len(), scratch.len()) {
-        return Tally {
-            left: 0,
-            stop: true,
-        };
+    if !close_fits(
+        n,
+        free,
+        fits,
+        catalogue.len(),
+        map.len(),
+        card.len(),
+        scratch.len(),
+    ) {
+        return Err(Refusal::Misfit);
     }
-    Tally {
-        left: n - free,
-        stop: false,
+    if !test_sound(map, catalogue, scratch, n, n - free) {
+        return Err(Refusal::Damaged);
     }
+    Ok(())
 }
 
-// The rows, by whether there was something to test and whether the state is sound.
-fn verdict(role: u32, start: Tally, sound: bool) -> u32
-    ensures { result ≡ number_by role start sound }
+// The first h blocks become taken, and all others free.
+fn close_map(map: &mut [u64], n: u32, h: u32)
+    requires { (length map.old ≤ 4096) × (n ≤ 262144) × (n ≤ 64 * length map.old) × (h ≤ n) }
+    ensures { map.new ≡ first_taken h n (length map.old) }
 {
-    if turned_away(role, roles::CLOSE) {
-        return TURNED_AWAY;
-    }
-    if start.stop {
-        return 1;
-    }
-    if sound {
-        return 0;
-    }
-    4
-}
-
-// How many rounds there are: as many as entries, and none after a refusal.
-fn rounds_for(count: usize, number: u32) -> usize
-    ensures { result ≡ rounds_for count number }
-{
-    if number == 0 {
-        return count;
-    }
-    0
-}
-
-// Whether a map of so many words can be marked.
-fn map_fits(words: usize, n: u32, h: u32) -> bool
-    ensures { result ≡ map_fits words n h }
-{
-    if 4096 < words {
-        return false;
-    }
-    if BLOCKS < n {
-        return false;
-    }
-    if 64 * words < n as usize {
-        return false;
-    }
-    h <= n
-}
-
-// The first h blocks become taken, and all others free, if the call was accepted.
-fn close_map(map: &mut [u64], n: u32, h: u32, number: u32)
-    ensures { map.new ≡ map_after map.old n h number }
-{
-    if number != 0 {
-        return;
-    }
-    if !map_fits(map.len(), n, h) {
-        return;
-    }
     fresh(map, n);
     mark(map, 0, h, TAKEN);
 }
 
-// Closes the gaps of a card, and gives 0 or the refusal's number. `fits`: what else is lent, a summary, has its length. If
-// there are rounds, the number is 0, and that is the block where they begin.
+// Closes the gaps of a card, or says why not. `fits`: what else is lent, a summary, has its length. The rounds begin at block
+// 0.
 pub fn close(
     role: u32,
     n: u32,
@@ -198,9 +159,9 @@ pub fn close(
     catalogue: &mut [Entry],
     card: &mut [u8],
     scratch: &mut [u64],
-) -> u32
+) -> Result<(), Refusal>
     ensures { let turned = turned_away role names.close in
-        (result ≡ close_number turned n free fits map.old catalogue.old card.old
+        (number_in result ≡ close_number turned n free fits map.old catalogue.old card.old
         scratch.old)
         × (map.new ≡ close_map turned n free fits map.old catalogue.old card.old
         scratch.old)
@@ -211,12 +172,10 @@ pub fn close(
         × (scratch.new ≡ close_scratch turned n free fits map.old catalogue.old card.old
         scratch.old) }
 {
-    let count = catalogue::count(&*catalogue);
-    let start = begin(role, n, free, fits, &*map, count, &*card, &*scratch);
-    let sound = test_sound(&*map, &*catalogue, scratch, n, start);
-    let number = verdict(role, start, sound);
-    let rounds = rounds_for(count, number);
-    let last = close_rounds(catalogue, card, rounds, number);
-    close_map(map, n, last, number);
-    number
+    let ruled = verdict(role, n, free, fits, &*map, &*catalogue, &*card, scratch);
+    scratch.fill(0);
+    ruled?;
+    let last = close_rounds(catalogue, card);
+    close_map(map, n, last);
+    Ok(())
 }

@@ -16,7 +16,7 @@ use Rattle.map_blocks.specs.Maps.{in_run}
 use Rattle.block_bytes.specs.Replaced.{replaced}
 use Rattle.block_bytes.proofs.Replaced.{replaced_length, replaced_before, replaced_in, replaced_after}
 use Rattle.blocks_of_card.specs.Card.{block_of, with_block}
-use Rattle.blocks_of_card.proofs.Card.{block_length}
+use Rattle.blocks_of_card.proofs.Card.{block_length, with_block_replaced}
 use Rattle.closing_moves.specs.Moved.{bytes_from, sourced, moved_from, moved}
 
 -- ---- bytes one by one
@@ -105,11 +105,6 @@ sourced_block card g b c e hb hc =
 abbrev one_from : ℕ → ℕ → ℕ → ℕ
 one_from b d x = cond (eqb x b) d x
 
--- a block replaced, as bytes replaced
-as_replaced : (card ys : List ℕ) (b : ℕ) → length ys ≡ 512 → with_block card b ys ≡ replaced card (512 * b) ys
-unfolding with_block replaced
-as_replaced card ys b e = rw e
-
 module _ (card : List ℕ) (b d : ℕ) (to : 512 * b + 512 ≤ length card) (from : 512 * d + 512 ≤ length card) where
   abbrev ys : List ℕ
   ys = block_of card d
@@ -149,7 +144,7 @@ module _ (card : List ℕ) (b d : ℕ) (to : 512 * b + 512 ≤ length card) (fro
 
   one_moved : with_block card b (block_of card d) ≡ sourced (one_from b d) card
   one_moved =
-      as_replaced card ys b long
+      with_block_replaced card ys b long
       ∙ sourced_ext card (one_from b d) (replaced card (512 * b) ys) (replaced_length card (512 * b) ys room) (λ j h.
       by j (eqb (j / 512) b) refl)
     where

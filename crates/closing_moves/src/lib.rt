@@ -6,21 +6,18 @@ ghost use Rattle.std.specs.Prelude.{◌≡◌, ◌+◌, ◌*◌, ◌≤◌, leng
 ghost use Rattle.blocks_of_card.specs.Card.{block_of, with_block};
 ghost use Rattle.closing_moves.specs.Moved.{moved};
 
-use block_bytes::copy;
 use block_seals::BLOCK;
 
-// Block `to` gets the bytes of block `from`.
+// Block `to` gets the bytes of block `from`, by way of an array: std's `copy_within` goes byte by byte.
 fn move_block(card: &mut [u8], to: usize, from: usize)
     requires { (512 * to + 512 ≤ length card.old) × (512 * from + 512 ≤ length card.old) }
     ensures { card.new ≡ with_block card.old to (block_of card.old from) }
 {
     let mut bytes = [0u8; BLOCK];
     let start = BLOCK * from;
-    let end = start + BLOCK;
-    copy(&mut bytes, &card[start..end]);
+    bytes.copy_from_slice(&card[start..start + BLOCK]);
     let first = BLOCK * to;
-    let last = first + BLOCK;
-    copy(&mut card[first..last], &bytes);
+    card[first..first + BLOCK].copy_from_slice(&bytes);
 }
 
 // Moves the k blocks from `from` on down to those from `to` on.
@@ -33,10 +30,7 @@ pub fn move_blocks(card: &mut [u8], to: u32, from: u32, k: u32)
     }
     let first = to as usize;
     let old = from as usize;
-    let count = k as usize;
-    let mut i = 0;
-    while i < count {
+    for i in 0..k as usize {
         move_block(card, first + i, old + i);
-        i += 1;
     }
 }

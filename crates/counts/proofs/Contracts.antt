@@ -10,7 +10,7 @@ use types.Logic.{Logic}
 use prog.Memory.{Memory}
 use prog.Routine.{Routine}
 use Rattle.block.proofs.Clauses.{Ensures, AsksNothing}
-use Rattle.counts.specs.Counts.{read_of, write_answer, after_write}
+use Rattle.counts.specs.Counts.{number_in, read_of, write_answer, after_write}
 use Rattle.counts.specs.Replies.{count_reply, count_from}
 use Rattle.counts.specs.contracts.read_count as read-count-function
 use Rattle.counts.specs.contracts.write_count as write-count-function
@@ -24,7 +24,7 @@ module _ {M : Type 1} {𝓤 : Ura M} (𝓛 : Logic 𝓤) (mem : Memory → SProp
   read_count_contract κs a r t g = refl
 
   pub write_count_contract : Ensures 𝓤 write-count-function.ended (write-count-function.clauses 𝓛 mem run) (λ κs a r t.
-      (r ≡ write_answer a.0.now a.1.0 a.1.1.0) × (t.0.now ≡ after_write a.0.now a.1.0 a.1.1.0))
+      (number_in r ≡ write_answer a.0.now a.1.0 a.1.1.0) × (t.0.now ≡ after_write a.0.now a.1.0 a.1.1.0))
   write_count_contract κs a r t g = refl
 
   pub reply_of_contract : Ensures 𝓤 reply-of-function.ended (reply-of-function.clauses 𝓛 mem run) (λ κs a r t.

@@ -9,11 +9,10 @@ use lib.Dec.{eqb, ltb}
 use lib.ListN.{length, get_or}
 use borrow.Author.Tests.{ne_eqb, eqb-true, lt-ltb, ltb-true}
 use Rattle.laws.proofs.Bools.{and_left, and_right}
+use Rattle.std.specs.Prelude.{Some, None, Ok, Err}
+use Rattle.counts.specs.Counts.{Count, Reading}
+use Rattle.counts.specs.declared.CountError.TheVariants.{WrongCount}
 use Rattle.counts.specs.Counts.{is_pair, pair_of, hundredths_of, byte_of, is_absent, digits, count_of, four, form_of, in_range}
-use Rattle.counts.specs.declared.Count.{Count}
-use Rattle.counts.specs.declared.Count.TheVariants.{Absent, Hundredths}
-use Rattle.counts.specs.declared.Reading.{Reading}
-use Rattle.counts.specs.declared.Reading.TheVariants.{Is, WrongCount}
 
 -- ---- two digits in a byte
 
@@ -90,14 +89,14 @@ counted l = count_of (get_or l 0 0) (get_or l 1 0) (get_or l 2 0) (get_or l 3 0)
 
 pub form_length : (count : Count) → length (form_of count) ≡ 4
 unfolding form_of
-form_length Absent = refl
-form_length (Hundredths v) = refl
+form_length None = refl
+form_length (Some v) = refl
 
 -- the form of a count in range is read as that count
-pub form_read : (count : Count) → in_range count ≡ true → counted (form_of count) ≡ Is count
+pub form_read : (count : Count) → in_range count ≡ true → counted (form_of count) ≡ Ok count
 unfolding count_of is_absent digits hundredths_of form_of in_range
-form_read Absent h = refl
-form_read (Hundredths v) h =
+form_read None h = refl
+form_read (Some v) h =
     let small : v < 100000000 = ltb-true v 100000000 h in
     let a : v / 1000000 < 100 = omega arith in
     let b : v / 10000 % 100 < 100 = omega arith in
@@ -122,7 +121,7 @@ pub record Formed (a b c d : ℕ) (count : Count) : Type 0 where
   pub range : in_range count ≡ true
 
 module _ (a b c d : ℕ) where
-  formed_absent : is_absent a b c d ≡ true → Formed a b c d Absent
+  formed_absent : is_absent a b c d ≡ true → Formed a b c d None
   unfolding is_absent form_of in_range
   formed_absent e =
       let ea = eqb-true a 255 (and_left (eqb a 255) (eqb b 255 && (eqb c 255 && eqb d 255)) e) in
@@ -133,7 +132,7 @@ module _ (a b c d : ℕ) where
       let ed = eqb-true d 255 (and_right (eqb c 255) (eqb d 255) e2) in
       record { form = cc; range = refl }
 
-  formed_number : digits a b c d ≡ true → Formed a b c d (Hundredths (hundredths_of a b c d))
+  formed_number : digits a b c d ≡ true → Formed a b c d (Some (hundredths_of a b c d))
   unfolding form_of in_range digits hundredths_of whole
   formed_number e =
       let pa = and_left (is_pair a) (is_pair b && (is_pair c && is_pair d)) e in
@@ -162,12 +161,12 @@ module _ (a b c d : ℕ) where
         range = lt-ltb _ 100000000 most;
       }
 
-  pub formed : (count : Count) → count_of a b c d ≡ Is count → Formed a b c d count
+  pub formed : (count : Count) → count_of a b c d ≡ Ok count → Formed a b c d count
   unfolding count_of
   formed count e = by (is_absent a b c d) (digits a b c d) refl refl e
     where
       by : (s t : Bool) → is_absent a b c d ≡ s → digits a b c d ≡ t
-          → cond s (Is Absent) (cond t (Is (Hundredths (hundredths_of a b c d))) WrongCount) ≡ Is count → Formed a b c d count
+          → cond s (Ok None) (cond t (Ok (Some (hundredths_of a b c d))) (Err WrongCount)) ≡ Ok count → Formed a b c d count
       by true t es et e = subst (Formed a b c d) (cc) (formed_absent es)
       by false true es et e = subst (Formed a b c d) (cc) (formed_number et)
       by false false es et e = absurd (let z : ◌≡◌ {A = ℕ} 0 1 = cc in omega arith)

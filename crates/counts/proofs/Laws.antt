@@ -17,14 +17,13 @@ use borrow.Author.Tests.{eq-eqb, ne_eqb, eqb-true, eqb-false, lt-ltb, ltb-true, 
 use Rattle.laws.proofs.Bools.{order}
 use Rattle.block_bytes.specs.Replaced.{replaced}
 use Rattle.block_bytes.proofs.Replaced.{replaced_length, replaced_before, replaced_after}
+use Rattle.std.specs.Prelude.{Some, None, Ok, Err}
+use Rattle.counts.specs.Counts.{Count, Reading}
+use Rattle.counts.specs.declared.CountError.TheVariants.{WrongLength, WrongCount}
 use Rattle.counts.specs.Counts.{is_pair, pair_of, hundredths_of, is_absent, digits, count_of, read_of, four, bytes_at, form_of}
 use Rattle.counts.specs.Counts.{in_range, write_answer, after_write}
 use Rattle.counts.specs.Replies.{count_reply, count_from}
-use Rattle.counts.specs.declared.Count.{Count}
-use Rattle.counts.specs.declared.Count.TheVariants.{Absent, Hundredths}
 use Rattle.counts.specs.declared.CountReply.{CountReply}
-use Rattle.counts.specs.declared.Reading.{Reading}
-use Rattle.counts.specs.declared.Reading.TheVariants.{Is, WrongLength, WrongCount}
 use Rattle.counts.proofs.Tests.{write_wrong, write-none, write-range}
 use Rattle.counts.proofs.Forms.{counted, form_length, form_read, Formed, formed}
 
@@ -132,7 +131,7 @@ module _ (payload : List ℕ) (which : ℕ) (count : Count) where
       }
 
   -- what is written is read back
-  pub read_back : write_answer payload which count ≡ 0 → read_of (after_write payload which count) which ≡ Is count
+  pub read_back : write_answer payload which count ≡ 0 → read_of (after_write payload which count) which ≡ Ok count
   read_back e =
       let a = accepted e in
       let bytes : List ℕ = form_of count in
@@ -188,7 +187,7 @@ module _ (payload : List ℕ) (which : ℕ) (count : Count) where
 
 -- ---- what is read
 
-module _ (payload : List ℕ) (which : ℕ) (count : Count) (e : read_of payload which ≡ Is count) where
+module _ (payload : List ℕ) (which : ℕ) (count : Count) (e : read_of payload which ≡ Ok count) where
   read_inside : Inside payload which
   unfolding read_of
   read_inside = by (eqb (length payload) 496) (ltb which 124) refl refl e
@@ -202,7 +201,7 @@ module _ (payload : List ℕ) (which : ℕ) (count : Count) (e : read_of payload
           (get_or payload (4 * which + 3) 0)
 
       by : (s t : Bool) → eqb (length payload) 496 ≡ s → ltb which 124 ≡ t
-          → cond s (cond t there WrongCount) WrongLength ≡ Is count → Inside payload which
+          → cond s (cond t there (Err WrongCount)) (Err WrongLength) ≡ Ok count → Inside payload which
       by false t es et e = absurd (let z : ◌≡◌ {A = ℕ} 0 1 = cc in omega arith)
       by true false es et e = absurd (let z : ◌≡◌ {A = ℕ} 0 1 = cc in omega arith)
       by true true es et e = record { long = eqb-true (length payload) 496 es; inside = ltb-true which 124 et }
@@ -232,25 +231,25 @@ module _ (payload : List ℕ) (which : ℕ) (count : Count) (e : read_of payload
         rw (l, i, read_formed.range, ← read_form, put_back payload which read_inside),
       )
 
-pub one_form : (p q : List ℕ) (i j : ℕ) (count : Count) → read_of p i ≡ Is count → read_of q j ≡ Is count
+pub one_form : (p q : List ℕ) (i j : ℕ) (count : Count) → read_of p i ≡ Ok count → read_of q j ≡ Ok count
     → bytes_at p i ≡ bytes_at q j
 one_form p q i j count e f = read_form p i count e ∙ sym (read_form q j count f)
 
 -- absent is four bytes of FF
-pub absent_only_lem : (payload : List ℕ) (which : ℕ) → read_of payload which ≡ Is Absent
+pub absent_only_lem : (payload : List ℕ) (which : ℕ) → read_of payload which ≡ Ok None
     → bytes_at payload which ≡ four 255 255 255 255
 unfolding form_of
-absent_only_lem payload which e = read_form payload which Absent e
+absent_only_lem payload which e = read_form payload which None e
 
 -- a number that is read is at most 99,999,999, and its bytes are not these
-pub number_only : (payload : List ℕ) (which v : ℕ) → read_of payload which ≡ Is (Hundredths v)
+pub number_only : (payload : List ℕ) (which v : ℕ) → read_of payload which ≡ Ok (Some v)
     → (v ≤ 99999999) × (bytes_at payload which ≡ four 255 255 255 255 → ⊥)
 unfolding in_range count_of is_absent
 number_only payload which v e = (
-  omega (arith, ltb-true v 100000000 (read_formed payload which (Hundredths v) e).range),
+  omega (arith, ltb-true v 100000000 (read_formed payload which (Some v) e).range),
   λ f.
-      let w = read_inside payload which (Hundredths v) e in
-      let other : Is (Hundredths v) ≡ Is Absent = sym e ∙ read_bytes payload which w ∙ ap counted f in
+      let w = read_inside payload which (Some v) e in
+      let other : Ok (Some v) ≡ Ok None = sym e ∙ read_bytes payload which w ∙ ap counted f in
       let z : ◌≡◌ {A = ℕ} 0 1 = cc in
       omega arith,
 )
@@ -264,14 +263,14 @@ number_back payload which h e =
     ap count_reply (read_back payload which (count_from h) e) ∙ by (eqb h 4294967295) refl
   where
     by : (t : Bool) → eqb h 4294967295 ≡ t
-        → ◌≡◌ {A = CountReply} (count_reply (Is (cond t Absent (Hundredths h)))) (record { number = 0; hundredths = h })
+        → ◌≡◌ {A = CountReply} (count_reply (Ok (cond t None (Some h)))) (record { number = 0; hundredths = h })
     by true s = ap (λ (k : ℕ). record { number = 0; hundredths = k }) (sym (eqb-true h 4294967295 s))
     by false s = refl
 
 -- ---- worked examples: 123.45, 0, the largest, absent, FF in one byte alone, and A for a digit
 
-pub worked : (count_of 0x00 0x01 0x23 0x45 ≡ Is (Hundredths 12345)) × (count_of 0x00 0x00 0x00 0x00 ≡ Is (Hundredths 0))
-    × (count_of 0x99 0x99 0x99 0x99 ≡ Is (Hundredths 99999999)) × (count_of 0xff 0xff 0xff 0xff ≡ Is Absent)
-    × (count_of 0xff 0x00 0x00 0x00 ≡ WrongCount) × (count_of 0x00 0x00 0x00 0x0a ≡ WrongCount)
+pub worked : (count_of 0x00 0x01 0x23 0x45 ≡ Ok (Some 12345)) × (count_of 0x00 0x00 0x00 0x00 ≡ Ok (Some 0))
+    × (count_of 0x99 0x99 0x99 0x99 ≡ Ok (Some 99999999)) × (count_of 0xff 0xff 0xff 0xff ≡ Ok None)
+    × (count_of 0xff 0x00 0x00 0x00 ≡ (Err WrongCount)) × (count_of 0x00 0x00 0x00 0x0a ≡ (Err WrongCount))
 unfolding count_of is_absent digits hundredths_of is_pair pair_of
 worked = (refl, refl, refl, refl, refl, refl)

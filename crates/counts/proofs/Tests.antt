@@ -12,12 +12,11 @@ use borrow.Author.Tests.{eq-eqb, ne_eqb, eqb-true, lt-ltb, le-ltb, ltb-true}
 use Rattle.laws.proofs.Bools.{and_left, and_right, not_true}
 use Rattle.block_bytes.specs.Numbers.{bytes4, number_at}
 use Rattle.block_bytes.specs.Replaced.{replaced}
+use Rattle.std.specs.Prelude.{Some, None, Ok, Err}
+use Rattle.counts.specs.Counts.{Count, Reading}
+use Rattle.counts.specs.declared.CountError.TheVariants.{WrongLength, WrongCount}
 use Rattle.counts.specs.Counts.{is_pair, pair_of, hundredths_of, byte_of, is_absent, digits, count_of, read_of, four, form_of}
 use Rattle.counts.specs.Counts.{in_range, write_answer, after_write}
-use Rattle.counts.specs.declared.Count.{Count}
-use Rattle.counts.specs.declared.Count.TheVariants.{Absent, Hundredths}
-use Rattle.counts.specs.declared.Reading.TheVariants.{Is, WrongLength, WrongCount}
-use Rattle.counts.specs.declared.Reading.{Reading}
 use Rattle.counts.proofs.Forms.{form_length}
 
 pub sum_told : (a b c d p q r s : ℕ) → p ≡ pair_of a → q ≡ pair_of b → r ≡ pair_of c → s ≡ pair_of d
@@ -33,16 +32,16 @@ module _ (a b c d : ℕ) where
       let high : a / 16 < 10 = ltb-true (a / 16) 10 (and_left (ltb (a / 16) 10) (ltb (a % 16) 10) first) in
       rw (ne_eqb a 255 (λ z. omega arith))
 
-  pub number_told : (v : ℕ) → digits a b c d ≡ true → v ≡ hundredths_of a b c d → Is (Hundredths v) ≡ count_of a b c d
+  pub number_told : (v : ℕ) → digits a b c d ≡ true → v ≡ hundredths_of a b c d → Ok (Some v) ≡ count_of a b c d
   unfolding count_of
   number_told v e ev = rw (number_present e, e, ev)
 
-  pub digit_refused : is_absent a b c d ≡ false → digits a b c d ≡ false → WrongCount ≡ count_of a b c d
+  pub digit_refused : is_absent a b c d ≡ false → digits a b c d ≡ false → (Err WrongCount) ≡ count_of a b c d
   unfolding count_of
   digit_refused e t = rw (e, t)
 
 -- a number is absent exactly if it is 4,294,967,295
-pub absent_told : (n : ℕ) → n ≡ 4294967295 → Is Absent ≡ count_of (n / 16777216) (n / 65536 % 256) (n / 256 % 256) (n % 256)
+pub absent_told : (n : ℕ) → n ≡ 4294967295 → Ok None ≡ count_of (n / 16777216) (n / 65536 % 256) (n / 256 % 256) (n % 256)
 unfolding count_of is_absent
 absent_told n e = ap (λ (k : ℕ). count_of (k / 16777216) (k / 65536 % 256) (k / 256 % 256) (k % 256)) (sym e)
 
@@ -73,11 +72,11 @@ not_absent n h = not_true (is_absent (n / 16777216) (n / 65536 % 256) (n / 256 %
         steps (n / 16777216) (n / 65536 % 256) (n / 256 % 256) (n % 256) (n / 65536) (n / 256) p q r s one two three
 
 module _ (payload : List ℕ) (which : ℕ) where
-  pub read_wrong : (length payload ≡ 496 → ⊥) → WrongLength ≡ read_of payload which
+  pub read_wrong : (length payload ≡ 496 → ⊥) → (Err WrongLength) ≡ read_of payload which
   unfolding read_of
   read_wrong h = rw (ne_eqb (length payload) 496 h)
 
-  pub read_none : length payload ≡ 496 → 124 ≤ which → WrongCount ≡ read_of payload which
+  pub read_none : length payload ≡ 496 → 124 ≤ which → (Err WrongCount) ≡ read_of payload which
   unfolding read_of
   read_none l h = rw (eq-eqb (length payload) 496 l, le-ltb which 124 h)
 
@@ -121,7 +120,7 @@ module _ (payload : List ℕ) (which : ℕ) where
       fourth n a b c d s e = omega arith
 
 -- a number in range has eight digits
-pub eight_digits : (count : Count) (v : ℕ) → in_range count ≡ true → count ≡ Hundredths v → v < 100000000
+pub eight_digits : (count : Count) (v : ℕ) → in_range count ≡ true → count ≡ Some v → v < 100000000
 unfolding in_range
 eight_digits count v h e = ltb-true v 100000000 (sym (ap in_range e) ∙ h)
 
@@ -138,12 +137,12 @@ stored_bytes a b c d ha hb hc hd =
 
 pub number_form : (v p q r s : ℕ) → (p ≡ byte_of (v / 1000000)) × (p < 256) → (q ≡ byte_of (v / 10000 % 100)) × (q < 256)
     → (r ≡ byte_of (v / 100 % 100)) × (r < 256) → (s ≡ byte_of (v % 100)) × (s < 256)
-    → bytes4 (p * 16777216 + q * 65536 + r * 256 + s) ≡ form_of (Hundredths v)
+    → bytes4 (p * 16777216 + q * 65536 + r * 256 + s) ≡ form_of (Some v)
 unfolding form_of
 number_form v p q r s ep eq er es =
     stored_bytes p q r s ep.1 eq.1 er.1 es.1 ∙ rw (ep.0, eq.0, er.0, es.0)
 
-pub absent_form : bytes4 4294967295 ≡ form_of Absent
+pub absent_form : bytes4 4294967295 ≡ form_of None
 unfolding bytes4 form_of
 absent_form = refl
 

@@ -2,11 +2,27 @@
 -- Assumes nothing.
 use Rattle.std.specs.Prelude.{Bool, true, cond, ◌&&◌, List, [], ◌∷◌, ℕ, ◌+◌, ◌*◌, ◌/◌, ◌%◌, eqb, ltb, length, get_or, take}
 use Rattle.std.specs.Prelude.{drop}
+use Rattle.std.specs.Prelude.{Option, Some, None, Result, Ok, Err}
 use Rattle.block_bytes.specs.Replaced.{replaced}
-use Rattle.counts.specs.declared.Count.{Count}
-use Rattle.counts.specs.declared.Count.TheVariants.{Absent, Hundredths}
-use Rattle.counts.specs.declared.Reading.{Reading}
-use Rattle.counts.specs.declared.Reading.TheVariants.{Is, WrongLength, WrongCount}
+use Rattle.counts.specs.declared.CountError.{CountError}
+use Rattle.counts.specs.declared.CountError.TheVariants.{WrongLength, WrongCount}
+
+-- A count: absent, which is `None`, or a number of hundredths; and what a read gives.
+abbrev pub Count : Type 0
+Count = Option ℕ
+
+abbrev pub Reading : Type 0
+Reading = Result Count CountError
+
+-- the rows of the refusals, and 0 where there is none
+abbrev pub number : CountError → ℕ
+number WrongLength = 3
+number WrongCount = 16
+
+module _ {T : Type 0} where
+  abbrev pub number_in : Result T CountError → ℕ
+  number_in (Ok x) = 0
+  number_in (Err r) = number r
 
 -- "two digits a byte, high digit first": a byte with digits 0 to 9, the number of its two digits, and the byte of a number
 unfoldable pub is_pair : ℕ → Bool
@@ -36,8 +52,8 @@ hundredths_of a b c d = pair_of a * 1000000 + pair_of b * 10000 + pair_of c * 10
 -- "Reading gives absent or the count in hundredths"; refused "for another digit in the four bytes read"
 unfoldable pub count_of : ℕ → ℕ → ℕ → ℕ → Reading
 count_of a b c d =
-    cond (is_absent a b c d) (Is Absent)
-    (cond (digits a b c d) (Is (Hundredths (hundredths_of a b c d))) WrongCount)
+    cond (is_absent a b c d) (Ok None)
+    (cond (digits a b c d) (Ok (Some (hundredths_of a b c d))) (Err WrongCount))
 
 -- "A payload holds 124 counts, at 4 times their number"; refused for a payload of another length than 496, and after that
 -- "for a count number of 124 or more"
@@ -50,8 +66,8 @@ read_of payload which =
     (get_or payload (4 * which + 1) 0)
     (get_or payload (4 * which + 2) 0)
     (get_or payload (4 * which + 3) 0))
-    WrongCount)
-    WrongLength
+    (Err WrongCount))
+    (Err WrongLength)
 
 -- the four bytes of count number `which`
 abbrev pub bytes_at : List ℕ → ℕ → List ℕ
@@ -59,14 +75,14 @@ bytes_at payload which = take 4 (drop (4 * which) payload)
 
 -- the four bytes that are written for a count
 unfoldable pub form_of : Count → List ℕ
-form_of Absent = four 255 255 255 255
-form_of (Hundredths v) =
+form_of None = four 255 255 255 255
+form_of (Some v) =
     four (byte_of (v / 1000000)) (byte_of (v / 10000 % 100)) (byte_of (v / 100 % 100)) (byte_of (v % 100))
 
 -- "Writing covers absent and the same range", 0 to 99,999,999
 unfoldable pub in_range : Count → Bool
-in_range Absent = true
-in_range (Hundredths v) = ltb v 100000000
+in_range None = true
+in_range (Some v) = ltb v 100000000
 
 -- a write answers 0, or 3 for a payload of another length than 496, or after that 16 for a count number of 124 or more or a
 -- number out of range

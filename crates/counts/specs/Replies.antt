@@ -2,19 +2,18 @@
 -- so that a caller who does not look at the number sees no dose of 0.
 -- Assumes nothing.
 use Rattle.std.specs.Prelude.{cond, ℕ, eqb}
-use Rattle.counts.specs.declared.Count.{Count}
-use Rattle.counts.specs.declared.Count.TheVariants.{Absent, Hundredths}
-use Rattle.counts.specs.declared.Reading.{Reading}
-use Rattle.counts.specs.declared.Reading.TheVariants.{Is, WrongLength, WrongCount}
+use Rattle.std.specs.Prelude.{Some, None, Ok, Err}
+use Rattle.counts.specs.Counts.{Count, Reading}
+use Rattle.counts.specs.declared.CountError.TheVariants.{WrongLength, WrongCount}
 use Rattle.counts.specs.declared.CountReply.{CountReply}
 
 -- what a read hands back: 0, 3 or 16, and the hundredths
 abbrev pub count_reply : Reading → CountReply
-count_reply (Is Absent) = record { number = 0; hundredths = 4294967295 }
-count_reply (Is (Hundredths v)) = record { number = 0; hundredths = v }
-count_reply WrongLength = record { number = 3; hundredths = 4294967295 }
-count_reply WrongCount = record { number = 16; hundredths = 4294967295 }
+count_reply (Ok None) = record { number = 0; hundredths = 4294967295 }
+count_reply (Ok (Some v)) = record { number = 0; hundredths = v }
+count_reply (Err WrongLength) = record { number = 3; hundredths = 4294967295 }
+count_reply (Err WrongCount) = record { number = 16; hundredths = 4294967295 }
 
 -- the count that a number handed to a write stands for
 abbrev pub count_from : ℕ → Count
-count_from h = cond (eqb h 4294967295) Absent (Hundredths h)
+count_from h = cond (eqb h 4294967295) None (Some h)

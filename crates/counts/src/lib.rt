@@ -1,31 +1,35 @@
 // Dose counts in packed decimal (document 02, request (e)). A payload holds 124 counts of four bytes, count number `which`
 // at byte 4 · which: two digits a byte, the high digit first; four bytes of FF hex mean absent. Over numbers and a lent
 // payload alone: no card is needed. `read_count` and `write_count` are the calls; the C functions over them stand in the
-// crate pagunlit.
+// crate pagunlit. A count is a number of hundredths, and None is absent.
 #![tactic(auto)]
 
 ghost use Rattle.std.specs.Prelude.{◌≡◌, true, ◌/◌, ◌%◌, ◌<◌, ◌≤◌};
 ghost use Rattle.block_bytes.specs.Numbers.{bytes4};
 ghost use Rattle.counts.specs.Counts.{pair_of, byte_of, digits, hundredths_of, count_of, read_of};
 ghost use Rattle.counts.specs.Counts.{form_of, in_range, write_answer, after_write};
+ghost use Rattle.counts.specs.Counts.{number, number_in};
 ghost use Rattle.counts.specs.Replies.{count_reply, count_from};
 
 use block_seals::PAYLOAD;
 
-// A count: absent, or a number of hundredths.
-#[derive(Clone, Copy)]
-pub enum Count {
-    Absent,
-    Hundredths(u32),
-}
-
-// What a read of a count gives: the count, or why it is refused. Two variants without a number in place of one with it
-// stay in registers: a read is then faster than plain C.
-#[derive(Clone, Copy)]
-pub enum Reading {
-    Is(Count),
+// Why a count is refused: the payload has another length; or it has another digit, is out of range or is not there.
+#[derive(Clone, Copy, PartialEq, Eq, Debug)]
+pub enum CountError {
     WrongLength,
     WrongCount,
+}
+
+impl CountError {
+    // The row of the refusal.
+    pub fn number(self) -> u32
+        ensures { result ≡ number self }
+    {
+        match self {
+            CountError::WrongLength => 3,
+            CountError::WrongCount => 16,
+        }
+    }
 }
 
 // How many counts a payload holds.
@@ -33,11 +37,6 @@ const COUNTS: u32 = 124;
 
 // One more than the largest number of hundredths.
 const LIMIT: u32 = 100000000;
-
-// The refusals: a payload of another length; another digit, a number out of range, or no such count.
-const WRONG_LENGTH: u32 = 3;
-
-const WRONG_COUNT: u32 = 16;
 
 // The number that four bytes of FF make; it stands for absent in C.
 const ABSENT: u32 = 4294967295;
@@ -69,29 +68,29 @@ fn hundredths_of(n: u32) -> u32
 }
 
 // The count that four bytes hold, of the number stored in them.
-fn count_of(n: u32) -> Reading
+fn count_of(n: u32) -> Result<Option<u32>, CountError>
     ensures { result ≡ count_of (n / 16777216) (n / 65536 % 256) (n / 256 % 256) (n % 256) }
 {
     if all_digits(n) {
-        return Reading::Is(Count::Hundredths(hundredths_of(n)));
+        return Ok(Some(hundredths_of(n)));
     }
     if n == ABSENT {
-        return Reading::Is(Count::Absent);
+        return Ok(None);
     }
-    Reading::WrongCount
+    Err(CountError::WrongCount)
 }
 
 // Reads count number `which` of a payload.
-pub fn read_count(payload: &[u8], which: u32) -> Reading
+pub fn read_count(payload: &[u8], which: u32) -> Result<Option<u32>, CountError>
     ensures { result ≡ read_of payload.now which }
 {
     if payload.len() != PAYLOAD {
-        return Reading::WrongLength;
+        return Err(CountError::WrongLength);
     }
     if which < COUNTS {
         return count_of(block_bytes::get4(payload, 4 * (which as usize)));
     }
-    Reading::WrongCount
+    Err(CountError::WrongCount)
 }
 
 // The byte with the two digits of a number.
@@ -103,46 +102,46 @@ fn byte_of(n: u32) -> u32
 }
 
 // Whether a count can be written.
-fn in_range(count: Count) -> bool
+fn in_range(count: Option<u32>) -> bool
     ensures { result ≡ in_range count }
 {
     match count {
-        Count::Absent => true,
-        Count::Hundredths(v) => v < LIMIT,
+        None => true,
+        Some(v) => v < LIMIT,
     }
 }
 
 // The number whose four bytes are written for a count.
-fn stored(count: Count) -> u32
+fn stored(count: Option<u32>) -> u32
     requires { in_range count ≡ true }
     ensures { bytes4 result ≡ form_of count }
 {
     match count {
-        Count::Absent => ABSENT,
-        Count::Hundredths(v) => byte_of(v / 1000000) * 16777216
+        None => ABSENT,
+        Some(v) => byte_of(v / 1000000) * 16777216
             + byte_of(v / 10000 % 100) * 65536
             + byte_of(v / 100 % 100) * 256
             + byte_of(v % 100),
     }
 }
 
-// Writes count number `which` of a payload: those four bytes and no others. Gives 0 or the number of a refusal.
-pub fn write_count(payload: &mut [u8], which: u32, count: Count) -> u32
-    ensures { (result ≡ write_answer payload.old which count)
+// Writes count number `which` of a payload: those four bytes and no others.
+pub fn write_count(payload: &mut [u8], which: u32, count: Option<u32>) -> Result<(), CountError>
+    ensures { (number_in result ≡ write_answer payload.old which count)
         × (payload.new ≡ after_write payload.old which count) }
 {
     if payload.len() != PAYLOAD {
-        return WRONG_LENGTH;
+        return Err(CountError::WrongLength);
     }
     if which >= COUNTS {
-        return WRONG_COUNT;
+        return Err(CountError::WrongCount);
     }
     if in_range(count) {
         let at = 4 * (which as usize);
         block_bytes::put4(&mut payload[at..at + 4], stored(count));
-        return 0;
+        return Ok(());
     }
-    WRONG_COUNT
+    Err(CountError::WrongCount)
 }
 
 // ---- counts as C has them
@@ -155,36 +154,23 @@ pub struct CountReply {
     pub hundredths: u32,
 }
 
-pub fn reply_of(reading: Reading) -> CountReply
+pub fn reply_of(reading: Result<Option<u32>, CountError>) -> CountReply
     ensures { result ≡ count_reply reading }
 {
     match reading {
-        Reading::Is(count) => match count {
-            Count::Absent => CountReply {
-                number: 0,
-                hundredths: ABSENT,
-            },
-            Count::Hundredths(v) => CountReply {
-                number: 0,
-                hundredths: v,
-            },
+        Ok(count) => CountReply {
+            number: 0,
+            hundredths: count.unwrap_or(ABSENT),
         },
-        Reading::WrongLength => CountReply {
-            number: WRONG_LENGTH,
-            hundredths: ABSENT,
-        },
-        Reading::WrongCount => CountReply {
-            number: WRONG_COUNT,
+        Err(error) => CountReply {
+            number: error.number(),
             hundredths: ABSENT,
         },
     }
 }
 
-pub fn count_from(hundredths: u32) -> Count
+pub fn count_from(hundredths: u32) -> Option<u32>
     ensures { result ≡ count_from hundredths }
 {
-    if hundredths == ABSENT {
-        return Count::Absent;
-    }
-    Count::Hundredths(hundredths)
+    (hundredths != ABSENT).then_some(hundredths)
 }

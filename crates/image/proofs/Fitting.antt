@@ -5,7 +5,7 @@ use mathlib.Core.Bool.{Bool, true, false, ◌&&◌}
 use Prim.Native.Nat.{ℕ, ◌*◌, ◌/◌, ◌%◌, ◌≤◌, ◌<◌}
 use native.Mathlib.Omega.{arith}
 use lib.Dec.{eqb, leb}
-use borrow.Author.Tests.{eqb-true, leb-true, eq-eqb, ne_eqb, lt-leb, le-leb}
+use borrow.Author.Tests.{eqb-true, leb-true, eq-eqb, le-leb}
 use Rattle.map_blocks.specs.Maps.{words_for}
 use Rattle.laws.proofs.Bools.{and_left, and_right}
 use Rattle.catalogue_standings.specs.Limits.{shape_fits, sheets_fit}
@@ -34,15 +34,7 @@ pub record SaveFits (n spare c maplen scratchlen : ℕ) : Type 0 where
   pub scratch : scratchlen ≡ scratch_words maplen
 
 module _ (n spare c maplen scratchlen : ℕ) where
-  pub save_unshaped : shape_fits n spare maplen ≡ false → false ≡ save_fits n spare c maplen scratchlen
-  unfolding save_fits
-  save_unshaped s = sym (ap (λ (a : Bool). a && sheets_fit c && eqb scratchlen (scratch_words maplen)) s)
-
   module _ (s : shape_fits n spare maplen ≡ true) where
-    pub save-uncounted : sheets_fit c ≡ false → false ≡ save_fits n spare c maplen scratchlen
-    unfolding save_fits
-    save-uncounted t = sym (ap₂ (λ (a b : Bool). a && b && eqb scratchlen (scratch_words maplen)) s t)
-
     pub save-by-scratch : sheets_fit c ≡ true → (v : ℕ) → v ≡ scratch_words maplen
         → eqb scratchlen v ≡ save_fits n spare c maplen scratchlen
     unfolding save_fits
@@ -75,16 +67,7 @@ pub record Whole (bytes : ℕ) : Type 0 where
   pub few : bytes / 512 ≤ 91
 
 module _ (bytes : ℕ) where
-  pub whole_cut : (bytes % 512 ≡ 0 → ⊥) → false ≡ whole_blocks bytes
-  unfolding whole_blocks
-  whole_cut h = sym (ap (λ (a : Bool). a && leb 1 (bytes / 512) && leb (bytes / 512) 91) (ne_eqb (bytes % 512) 0 h))
-
   module _ (z : bytes % 512 ≡ 0) where
-    pub whole-none : bytes / 512 < 1 → false ≡ whole_blocks bytes
-    unfolding whole_blocks
-    whole-none h =
-        sym (ap₂ (λ (a b : Bool). a && b && leb (bytes / 512) 91) (eq-eqb (bytes % 512) 0 z) (lt-leb 1 (bytes / 512) h))
-
     pub whole-by-few : leb 1 (bytes / 512) ≡ true → leb (bytes / 512) 91 ≡ whole_blocks bytes
     unfolding whole_blocks
     whole-by-few h = sym (ap₂ (λ (a b : Bool). a && b && leb (bytes / 512) 91) (eq-eqb (bytes % 512) 0 z) h)
@@ -167,19 +150,7 @@ pub record LoadFits (n c maplen count scratchlen : ℕ) : Type 0 where
   pub scratch : scratchlen ≡ scratch_words (words_for n)
 
 module _ (n c maplen count scratchlen w : ℕ) (ew : w ≡ words_for n) where
-  pub load_words : (maplen ≡ w → ⊥) → false ≡ load_fits n c maplen count scratchlen
-  unfolding load_fits
-  load_words h =
-      sym (ap (λ (a : Bool). a && eqb count c && eqb scratchlen (scratch_words (words_for n)))
-      (ne_eqb maplen (words_for n) (λ q. h (q ∙ sym ew))))
-
   module _ (e : maplen ≡ w) where
-    pub load-entries : (count ≡ c → ⊥) → false ≡ load_fits n c maplen count scratchlen
-    unfolding load_fits
-    load-entries h =
-        sym (ap₂ (λ (a b : Bool). a && b && eqb scratchlen (scratch_words (words_for n))) (eq-eqb maplen (words_for n) (e ∙ ew))
-        (ne_eqb count c h))
-
     pub load-by-scratch : count ≡ c → (v : ℕ) → v ≡ scratch_words (words_for n)
         → eqb scratchlen v ≡ load_fits n c maplen count scratchlen
     unfolding load_fits

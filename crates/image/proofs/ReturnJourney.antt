@@ -14,10 +14,9 @@ use Rattle.catalogue.specs.declared.Entry.{Entry}
 use Rattle.image_frames.specs.Frames.{Bytes, total_of}
 use Rattle.image_soundness.specs.Scratch.{scratch_words}
 use Rattle.image_soundness.specs.Sound.{State}
-use Rattle.image.specs.Effects.{save_number, save_image, load_result, load_map, load_entries, load_scratch}
+use Rattle.image.specs.Effects.{Answered, save_number, save_image, load_result, load_map, load_entries, load_scratch}
 use Rattle.image.specs.Image.{frames_for, image_of, blocks_in, free_count_in, sheets_in, state_in}
 use Rattle.image.specs.Table.{save_fits, save_verdict, load_verdict}
-use Rattle.image.specs.declared.Loaded.{Loaded}
 use Rattle.image.proofs.Fitting.{to_save_fits, whole_to, head_to}
 use Rattle.image.proofs.Journey.{Words, saved_state_lem, saved_accepted, loaded_image, entries_length, map_length}
 use Rattle.image.proofs.Verdicts.{to_saved, save_accepted, accepted_to, load_accepted}
@@ -25,7 +24,7 @@ use Rattle.image.proofs.Verdicts.{to_saved, save_accepted, accepted_to, load_acc
 abbrev state : ℕ → ℕ → List Entry → List ℕ → State
 state n spare entries map = record { blocks = n; spare = spare; entries = entries; map = map }
 
-abbrev loaded : ℕ → ℕ → ℕ → Loaded
+abbrev loaded : ℕ → ℕ → ℕ → Answered
 loaded number n spare = record { number = number; blocks = n; free = spare }
 
 -- a load gives n, the free count, the map and the entries, and leaves zeros in the scratch
@@ -97,7 +96,7 @@ module _ (turned : Bool) (image map : List ℕ) (entries : List Entry) (scratch 
   same_given : state_in image ≡ given
   same_given =
       let g = accepted_gives turned image map entries scratch (number_accepts turned image map entries scratch done) in
-      sym (ap₂ (λ (x : Loaded) (l : List Entry). state x.blocks x.free l (load_map turned image map entries scratch)) g.result
+      sym (ap₂ (λ (x : Answered) (l : List Entry). state x.blocks x.free l (load_map turned image map entries scratch)) g.result
       g.sheets
       ∙ ap (state (blocks_in image) (free_count_in image) (state_in image).entries) g.words)
 

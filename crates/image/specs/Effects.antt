@@ -1,8 +1,10 @@
 -- What save and load answer and leave (document 01, "Saved image"). A refusal changes nothing but the scratch, which is all
 -- zeros after every save and load.
 -- Assumes nothing.
-use Rattle.std.specs.Prelude.{◌≡◌, Bool, List, ℕ, length, replicate}
+use Rattle.std.specs.Prelude.{◌≡◌, Bool, List, ℕ, Result, Ok, Err, length, replicate}
+use Rattle.catalogue_standings.specs.Refusals.{number, number_in}
 use Rattle.catalogue_standings.specs.Rows.{settle, row_number}
+use Rattle.catalogue_standings.specs.declared.Refusal.{Refusal}
 use Rattle.catalogue.specs.declared.Entry.{Entry}
 use Rattle.image_soundness.specs.Sound.{State}
 use Rattle.image.specs.Image.{image_of, state_in}
@@ -29,12 +31,22 @@ module _ (turned : Bool) (n spare : ℕ) (map : List ℕ) (entries : List Entry)
   unfolding save_verdict
   save_image = settle (save_verdict turned lent_state (length scratch) (length buffer)) (image_of lent_state) (λ number. buffer)
 
-  abbrev pub Saves : ℕ → List ℕ → List ℕ → Type 0
-  Saves r scratch' buffer' = (r ≡ save_number) × (scratch' ≡ save_scratch) × (buffer' ≡ save_image)
+  abbrev pub Saves : Result (Unit {0}) Refusal → List ℕ → List ℕ → Type 0
+  Saves r scratch' buffer' = (number_in r ≡ save_number) × (scratch' ≡ save_scratch) × (buffer' ≡ save_image)
+
+-- What a load answers: 0, n and the free count of the image, or the number of the row.
+pub record Answered : Type 0 where
+  pub number : ℕ
+  pub blocks : ℕ
+  pub free : ℕ
+
+abbrev pub answered : Result Loaded Refusal → Answered
+answered (Ok loaded) = record { number = 0; blocks = loaded.blocks; free = loaded.free }
+answered (Err refusal) = record { number = number refusal; blocks = 0; free = 0 }
 
 -- Load, of whether it is turned away, of an image into a map, a catalogue and a scratch.
 module _ (turned : Bool) (image map : List ℕ) (entries : List Entry) (scratch : List ℕ) where
-  unfoldable pub load_result : Loaded
+  unfoldable pub load_result : Answered
   unfolding load_verdict
   load_result =
       settle (load_verdict turned image (length map) (length entries) (length scratch))
@@ -54,5 +66,6 @@ module _ (turned : Bool) (image map : List ℕ) (entries : List Entry) (scratch 
   unfoldable pub load_scratch : List ℕ
   load_scratch = zeros_for scratch
 
-  abbrev pub Loads : Loaded → List ℕ → List Entry → List ℕ → Type 0
-  Loads r map' entries' scratch' = (r ≡ load_result) × (map' ≡ load_map) × (entries' ≡ load_entries) × (scratch' ≡ load_scratch)
+  abbrev pub Loads : Result Loaded Refusal → List ℕ → List Entry → List ℕ → Type 0
+  Loads r map' entries' scratch' = (answered r ≡ load_result) × (map' ≡ load_map) × (entries' ≡ load_entries)
+      × (scratch' ≡ load_scratch)

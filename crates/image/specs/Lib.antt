@@ -1,7 +1,5 @@
--- What a customer reads: the image of a state, the rows of save and load, what they leave, and images written before. Then
--- where the next entry stands.
+-- What a customer reads: the image of a state, the rows of save and load, what they leave, and images written before.
 pub mod Image
 pub mod Table
 pub mod Effects
 pub mod Before
-pub mod Cursors

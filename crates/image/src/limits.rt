@@ -32,36 +32,27 @@ pub fn frames_for(n: u32, c: usize) -> usize
 fn scratch_words(maplen: usize) -> usize
     ensures { result ≡ scratch_words maplen }
 {
-    if SCRATCH < maplen { SCRATCH } else { maplen }
+    maplen.min(SCRATCH)
 }
 
 // Row 1 of save.
+#[tactic(auto, unfolding(crate::specs::Table::save_fits))]
 pub fn save_fits(n: u32, free: u32, c: usize, maplen: usize, scratchlen: usize) -> bool
     ensures { result ≡ save_fits n free c maplen scratchlen }
 {
-    if !shape_fits(n, free, maplen) {
-        return false;
-    }
-    if !sheets_fit(c) {
-        return false;
-    }
-    scratchlen == scratch_words(maplen)
+    shape_fits(n, free, maplen) && sheets_fit(c) && scratchlen == scratch_words(maplen)
 }
 
 // Row 12 of load: 1 to 91 whole blocks.
+#[tactic(auto, unfolding(crate::specs::Table::whole_blocks))]
 pub fn whole_blocks(bytes: usize) -> bool
     ensures { result ≡ whole_blocks bytes }
 {
-    if bytes % BLOCK != 0 {
-        return false;
-    }
-    if bytes / BLOCK < 1 {
-        return false;
-    }
-    bytes / BLOCK <= IMAGE_BLOCKS
+    bytes % BLOCK == 0 && bytes / BLOCK >= 1 && bytes / BLOCK <= IMAGE_BLOCKS
 }
 
 // Row 14 of load for the numbers at the head: they are within their limits, and the number of image blocks fits them.
+// Test by test: words_for and frames_for ask for what the tests before them found, and behind && the proof did not have it.
 pub fn head_fits(n: u32, free: u32, c: usize, total: usize) -> bool
     ensures { result ≡ head_fits n free c total }
 {
@@ -78,15 +69,10 @@ pub fn head_fits(n: u32, free: u32, c: usize, total: usize) -> bool
 }
 
 // Row 1 of load.
+#[tactic(auto, unfolding(crate::specs::Table::load_fits))]
 pub fn load_fits(n: u32, c: usize, maplen: usize, count: usize, scratchlen: usize) -> bool
     requires { n ≤ 262144 }
     ensures { result ≡ load_fits n c maplen count scratchlen }
 {
-    if maplen != words_for(n) {
-        return false;
-    }
-    if count != c {
-        return false;
-    }
-    scratchlen == scratch_words(words_for(n))
+    maplen == words_for(n) && count == c && scratchlen == scratch_words(words_for(n))
 }

@@ -1,11 +1,11 @@
 -- That the tests of what stands in an image are soundness of its state, and a zero fill.
 -- Assumes nothing.
 use mathlib.Core.Path.{◌≡◌, sym, ap, ap₂, ◌∙◌}
-use mathlib.Core.Bool.{Bool, true, false, not}
+use mathlib.Core.Bool.{true}
 use mathlib.Core.List.{List}
 use Prim.Native.Nat.{ℕ, ◌+◌, ◌-◌, ◌*◌}
 use native.Mathlib.Omega.{arith}
-use lib.ListN.{length, drop}
+use lib.ListN.{drop}
 use Rattle.map_blocks.specs.Maps.{words_for}
 use Rattle.block_seals.specs.Sealed.{blank}
 use Rattle.catalogue_standings.specs.Limits.{shape_fits}
@@ -14,9 +14,7 @@ use Rattle.image_frames.specs.Frames.{body_of}
 use Rattle.image.proofs.Journey.{map_length}
 use Rattle.image_soundness.specs.Scratch.{scratch_words}
 use Rattle.image_soundness.specs.Sound.{State, sound}
-use Rattle.image_soundness.specs.Windows.{tally, tally_of, windows_of, first_window, window_count, tested}
-use Rattle.image_soundness.specs.declared.Tally.{Tally}
-use Rattle.image_soundness.specs.declared.Window.{Window}
+use Rattle.image_soundness.specs.Windows.{tested}
 use Rattle.image_soundness.proofs.Tested.{tested_sound}
 use Rattle.image.specs.Image.{content_length, blocks_in, free_count_in, sheets_in, entries_in, map_in, state_in, filled}
 
@@ -26,18 +24,10 @@ state n spare entries map = record { blocks = n; spare = spare; entries = entrie
 -- n, free count and c as they were read
 module _ (image : List ℕ) (n spare c : ℕ) (en : n ≡ blocks_in image) (es : spare ≡ free_count_in image)
     (ec : c ≡ sheets_in image) where
-  pub content_sound : shape_fits n spare (words_for n) ≡ true → (scratch : List ℕ) → length scratch
-      ≡ scratch_words (words_for n)
-      → (t : Tally) (first : Window) (stop : Bool) → t ≡ tally_of (entries_in image c) n (tally (n - spare) false)
-      → first ≡ first_window t
-      → stop ≡ (windows_of (map_in image n c) (entries_in image c) scratch n (window_count n first) first).stop
-      → not stop ≡ sound (state_in image)
-  unfolding tested
-  content_sound fit scratch size t first stop et ef el =
-      ap not
-      (el ∙ ap (λ (w : Window). (windows_of (map_in image n c) (entries_in image c) scratch n (window_count n w) w).stop)
-      (ef ∙ ap first_window et))
-      ∙ tested_sound (state n spare (entries_in image c) (map_in image n c)) scratch
+  pub content_sound : shape_fits n spare (words_for n) ≡ true → (m : ℕ) → m ≡ scratch_words (words_for n)
+      → tested (map_in image n c) (entries_in image c) m n (n - spare) ≡ sound (state_in image)
+  content_sound fit m size =
+      tested_sound (state n spare (entries_in image c) (map_in image n c)) m
       (ap (shape_fits n spare) (map_length image n c) ∙ fit) (size ∙ ap scratch_words (sym (map_length image n c)))
       ∙ ap₂ (λ (x y : ℕ). sound (state x y (entries_in image c) (map_in image x c))) en es
       ∙ ap (λ (x : ℕ). sound (state (blocks_in image) (free_count_in image) (entries_in image x)

@@ -1,144 +1,128 @@
--- Entries passed in order: counted, and their parts released in a window. What is left comes to what all of them come to.
+-- Entries that are counted and released one after the other, or some at once, where it is known what they and those behind
+-- make together.
 -- Assumes nothing.
 use mathlib.Core.Path.{◌≡◌, refl, sym, ap, ap₂, ◌∙◌}
-use mathlib.Core.Bool.{Bool, true, false, cond}
+use mathlib.Core.Bool.{Bool, true, false, ◌&&◌, cond}
 use mathlib.Core.List.{List, [], ◌∷◌, ◌++◌}
-use Prim.Native.Nat.{ℕ}
-use lib.ListN.{length}
+use Prim.Native.Nat.{ℕ, ◌-◌}
+use Rattle.std.specs.Prelude.{Some, None}
+use Rattle.std.specs.Option.{option_and_then}
 use Rattle.catalogue.specs.declared.Entry.{Entry}
-use Rattle.image_soundness.specs.Windows.{tally_after, tally_of, window_after, scratch_after, window_over, scratch_over}
-use Rattle.image_soundness.specs.declared.Tally.{Tally}
-use Rattle.image_soundness.specs.declared.Window.{Window}
-use Rattle.image_soundness.proofs.Rounds.{tally_none, tally_more, over_none, over_more, left_none, left_more}
-use Rattle.image_soundness.proofs.Rounds.{after_length, over_length}
+use Rattle.image_soundness.specs.Windows.{countable, tally_after, tally_of, part_stands, scratch_after, parts_stand}
+use Rattle.image_soundness.specs.Windows.{scratch_over}
+use Rattle.image_soundness.proofs.Counted.{tally_none, tally_counts, tally_stops}
+use Rattle.image_soundness.proofs.Rounds.{stand_none, stand_more, left_none, left_more}
+use Rattle.image_soundness.proofs.Steps.{first_fails}
 
--- a choice, once it is made
-module _ {A : Type 0} (b : Bool) (x y z : A) where
-  first_way : b ≡ true → cond b x y ≡ z → x ≡ z
-  first_way t e = sym (ap (λ (v : Bool). cond v x y) t) ∙ e
+-- counted
+module _ (n : ℕ) where
+  tally_split : (xs ys : List Entry) (left : ℕ)
+      → tally_of (xs ++ ys) n left ≡ option_and_then (λ rest. tally_of ys n rest) (tally_of xs n left)
+  unfolding tally_of
+  tally_split [] ys left = refl
+  tally_split (x ∷ xs) ys left = by (countable n left x) (tally_split xs ys (left - x.length))
+    where
+      by : (b : Bool) → tally_of (xs ++ ys) n (left - x.length)
+          ≡ option_and_then (λ rest. tally_of ys n rest) (tally_of xs n (left - x.length))
+          → cond b (tally_of (xs ++ ys) n (left - x.length)) None
+          ≡ option_and_then (λ rest. tally_of ys n rest) (cond b (tally_of xs n (left - x.length)) None)
+      by true h = h
+      by false h = refl
 
-  second_way : b ≡ false → cond b x y ≡ z → y ≡ z
-  second_way f e = sym (ap (λ (v : Bool). cond v x y) f) ∙ e
+  pub none_counted : (all : List Entry) (left : ℕ) → all ≡ [] → tally_of all n left ≡ Some left
+  none_counted all left e = ap (λ (l : List Entry). tally_of l n left) e ∙ tally_none n left
 
-choice : {A B C : Type 0} (b : Bool) (g : A → B → C) (x y : C) (p p' : A) (q q' : B) → (b ≡ true → x ≡ g p q)
-    → (b ≡ false → y ≡ g p' q') → cond b x y ≡ g (cond b p p') (cond b q q')
-choice true g x y p p' q q' t f = t refl
-choice false g x y p p' q q' t f = f refl
+  module _ (all rest : List Entry) (left : ℕ) where
+    pub one_counted : (e : Entry) (next : ℕ) → all ≡ e ∷ rest → Some next ≡ tally_after n left e
+        → tally_of all n left ≡ tally_of rest n next
+    one_counted e next split h =
+        ap (λ (l : List Entry). tally_of l n left) split ∙ tally_counts n left e rest next (sym h)
 
--- ---- counted
+    pub one_stops : (e : Entry) → all ≡ e ∷ rest → None ≡ tally_after n left e → tally_of all n left ≡ None
+    one_stops e split h = ap (λ (l : List Entry). tally_of l n left) split ∙ tally_stops n left e rest (sym h)
 
--- those of one list, and then those of another
-tally_both : (xs ys : List Entry) (n : ℕ) (t : Tally) → t.stop ≡ false
-    → tally_of (xs ++ ys) n t ≡ cond (tally_of xs n t).stop (tally_of xs n t) (tally_of ys n (tally_of xs n t))
-tally_both [] ys n t going =
-    sym (ap (λ (x : Tally). cond x.stop x (tally_of ys n x)) (tally_none n t)
-    ∙ ap (λ (b : Bool). cond b t (tally_of ys n t)) going)
-tally_both (e ∷ xs) ys n t going =
-    let next : Tally = tally_after n t e in
-    let more : next.stop ≡ false
-    → tally_of (xs ++ ys) n next ≡ cond (tally_of xs n next).stop (tally_of xs n next) (tally_of ys n (tally_of xs n next)) =
-    tally_both xs ys n next in
-    tally_more e (xs ++ ys) n t
-    ∙ choice next.stop (λ (a b : Tally). cond a.stop b (tally_of ys n b)) next (tally_of (xs ++ ys) n next) next
-    (tally_of xs n next) next (tally_of xs n next)
-    (λ s. sym (ap (λ (b : Bool). cond b next (tally_of ys n next)) s)) more
-    ∙ ap (λ (x : Tally). cond x.stop x (tally_of ys n x)) (sym (tally_more e xs n t))
+    pub some_counted : (some : List Entry) (next : ℕ) → all ≡ some ++ rest → Some next ≡ tally_of some n left
+        → tally_of all n left ≡ tally_of rest n next
+    some_counted some next split h =
+        ap (λ (l : List Entry). tally_of l n left) split ∙ tally_split some rest left
+        ∙ ap (option_and_then (λ rest'. tally_of rest n rest')) (sym h)
 
-module _ (n : ℕ) (all : List Entry) (first : Tally) where
-  abbrev pub LeftToCount : List Entry → Tally → Type 0
-  LeftToCount es t = tally_of es n t ≡ tally_of all n first
+    pub some_stop : (some : List Entry) → all ≡ some ++ rest → None ≡ tally_of some n left → tally_of all n left ≡ None
+    some_stop some split h =
+        ap (λ (l : List Entry). tally_of l n left) split ∙ tally_split some rest left
+        ∙ ap (option_and_then (λ rest'. tally_of rest n rest')) (sym h)
 
-  pub count_from_lem : (es : List Entry) → all ≡ es → LeftToCount es first
-  count_from_lem es e = ap (λ (x : List Entry). tally_of x n first) (sym e)
+-- released, as long as each part is taken
+module _ (lo : ℕ) where
+  both_again : (a b c : Bool) → ((a && b) && c) ≡ (a && (b && c))
+  both_again true b c = refl
+  both_again false b c = refl
 
-  pub count_none : (es : List Entry) (t : Tally) → es ≡ [] → LeftToCount es t → t ≡ tally_of all n first
-  count_none es t e l = sym (ap (λ (x : List Entry). tally_of x n t) e ∙ tally_none n t) ∙ l
+  parts_split : (xs ys : List Entry) (scratch : List ℕ) → parts_stand (xs ++ ys) lo scratch
+      ≡ (parts_stand xs lo scratch && parts_stand ys lo (scratch_over xs lo scratch))
+  unfolding parts_stand scratch_over
+  parts_split [] ys scratch = refl
+  parts_split (x ∷ xs) ys scratch =
+      ap (λ (b : Bool). part_stands lo scratch x && b) (parts_split xs ys (scratch_after lo scratch x))
+      ∙ sym (both_again (part_stands lo scratch x) (parts_stand xs lo (scratch_after lo scratch x))
+      (parts_stand ys lo (scratch_over xs lo (scratch_after lo scratch x))))
 
-  -- an entry
-  module _ (es more : List Entry) (e : Entry) (t t' : Tally) (split : es ≡ e ∷ more) (et : t' ≡ tally_after n t e)
-      (l : LeftToCount es t) where
-    counted-one : cond t'.stop t' (tally_of more n t') ≡ tally_of all n first
-    counted-one =
-        ap (λ (x : Tally). cond x.stop x (tally_of more n x)) et ∙ sym (tally_more e more n t)
-        ∙ ap (λ (x : List Entry). tally_of x n t) (sym split) ∙ l
+  scratch_split : (xs ys : List Entry) (scratch : List ℕ) → scratch_over (xs ++ ys) lo scratch
+      ≡ scratch_over ys lo (scratch_over xs lo scratch)
+  unfolding scratch_over
+  scratch_split [] ys scratch = refl
+  scratch_split (x ∷ xs) ys scratch = scratch_split xs ys (scratch_after lo scratch x)
 
-    pub one_stopped : t'.stop ≡ true → t' ≡ tally_of all n first
-    one_stopped s = first_way t'.stop t' (tally_of more n t') (tally_of all n first) s counted-one
+  -- what the entries left make of the scratch is what all of them make
+  pub record Left (all : List Entry) (first : List ℕ) (rest : List Entry) (scratch : List ℕ) : Type 0 where
+    pub stands : parts_stand rest lo scratch ≡ parts_stand all lo first
+    pub over : scratch_over rest lo scratch ≡ scratch_over all lo first
 
-    pub one-counted : t'.stop ≡ false → LeftToCount more t'
-    one-counted s = second_way t'.stop t' (tally_of more n t') (tally_of all n first) s counted-one
+  module _ (all : List Entry) (first : List ℕ) where
+    pub left_from : (rest : List Entry) → all ≡ rest → Left all first rest first
+    left_from rest e = record {
+      stands = ap (λ (l : List Entry). parts_stand l lo first) (sym e);
+      over = ap (λ (l : List Entry). scratch_over l lo first) (sym e);
+    }
 
-  -- some entries
-  module _ (es some more : List Entry) (t t' : Tally) (split : es ≡ some ++ more) (et : t' ≡ tally_of some n t)
-      (going : t.stop ≡ false) (l : LeftToCount es t) where
-    counted-some : cond t'.stop t' (tally_of more n t') ≡ tally_of all n first
-    counted-some =
-        ap (λ (x : Tally). cond x.stop x (tally_of more n x)) et ∙ sym (tally_both some more n t going)
-        ∙ ap (λ (x : List Entry). tally_of x n t) (sym split) ∙ l
+    module _ (rest : List Entry) (scratch : List ℕ) (l : Left all first rest scratch) where
+      pub left_end : rest ≡ [] → (true ≡ parts_stand all lo first) × (true ≡ true → scratch ≡ scratch_over all lo first)
+      left_end e = (
+        sym (ap (λ (l : List Entry). parts_stand l lo scratch) e ∙ stand_none lo scratch) ∙ l.stands,
+        λ t. sym (ap (λ (l : List Entry). scratch_over l lo scratch) e ∙ left_none lo scratch) ∙ l.over,
+      )
 
-    pub some-stopped : t'.stop ≡ true → t' ≡ tally_of all n first
-    some-stopped s = first_way t'.stop t' (tally_of more n t') (tally_of all n first) s counted-some
+      -- one more
+      module _ (e : Entry) (behind : List Entry) (r : Bool) (split : rest ≡ e ∷ behind)
+          (er : r ≡ part_stands lo scratch e) where
+        pub one_fails : r ≡ false → false ≡ parts_stand all lo first
+        one_fails f =
+            first_fails _ (parts_stand behind lo (scratch_after lo scratch e)) (sym er ∙ f)
+            ∙ sym (stand_more e behind lo scratch) ∙ ap (λ (l : List Entry). parts_stand l lo scratch) (sym split) ∙ l.stands
 
-    pub some-counted : t'.stop ≡ false → LeftToCount more t'
-    some-counted s = second_way t'.stop t' (tally_of more n t') (tally_of all n first) s counted-some
+        pub one_released : (next : List ℕ) → r ≡ true → next ≡ scratch_after lo scratch e → Left all first behind next
+        one_released next t en = record {
+          stands = ap₂ (λ (b : Bool) (l : List ℕ). b && parts_stand behind lo l) (sym t ∙ er) en
+              ∙ sym (stand_more e behind lo scratch) ∙ ap (λ (l : List Entry). parts_stand l lo scratch) (sym split)
+              ∙ l.stands;
+          over = ap (scratch_over behind lo) en ∙ sym (left_more e behind lo scratch)
+              ∙ ap (λ (l : List Entry). scratch_over l lo scratch) (sym split) ∙ l.over;
+        }
 
--- ---- their parts released in a window
+      -- some more
+      module _ (some behind : List Entry) (r : Bool) (split : rest ≡ some ++ behind)
+          (er : r ≡ parts_stand some lo scratch) where
+        pub some_fail : r ≡ false → false ≡ parts_stand all lo first
+        some_fail f =
+            first_fails _ (parts_stand behind lo (scratch_over some lo scratch)) (sym er ∙ f)
+            ∙ sym (parts_split some behind scratch) ∙ ap (λ (l : List Entry). parts_stand l lo scratch) (sym split) ∙ l.stands
 
-over_both : (xs ys : List Entry) (w : Window) (scratch : List ℕ)
-    → (window_over (xs ++ ys) w scratch ≡ window_over ys (window_over xs w scratch) (scratch_over xs w scratch))
-    × (scratch_over (xs ++ ys) w scratch ≡ scratch_over ys (window_over xs w scratch) (scratch_over xs w scratch))
-over_both [] ys w scratch = (
-  sym (ap₂ (window_over ys) (over_none w scratch) (left_none w scratch)),
-  sym (ap₂ (scratch_over ys) (over_none w scratch) (left_none w scratch)),
-)
-over_both (e ∷ xs) ys w scratch =
-    let more = over_both xs ys (window_after w scratch e) (scratch_after w scratch e) in (
-      over_more e (xs ++ ys) w scratch ∙ more.0
-          ∙ ap₂ (window_over ys) (sym (over_more e xs w scratch)) (sym (left_more e xs w scratch)),
-      left_more e (xs ++ ys) w scratch ∙ more.1
-          ∙ ap₂ (scratch_over ys) (sym (over_more e xs w scratch)) (sym (left_more e xs w scratch)),
-    )
-
-module _ (all : List Entry) (first : Window) (start : List ℕ) where
-  pub record Left (es : List Entry) (w : Window) (scratch : List ℕ) : Type 0 where
-    pub long : length scratch ≡ length start
-    pub gives : window_over es w scratch ≡ window_over all first start
-    pub leaves : scratch_over es w scratch ≡ scratch_over all first start
-
-  pub left_from : (es : List Entry) → all ≡ es → Left es first start
-  left_from es e = record {
-    long = refl;
-    gives = ap (λ (x : List Entry). window_over x first start) (sym e);
-    leaves = ap (λ (x : List Entry). scratch_over x first start) (sym e);
-  }
-
-  pub left_end : (es : List Entry) (w : Window) (scratch : List ℕ) → es ≡ [] → Left es w scratch
-      → (w ≡ window_over all first start) × (scratch ≡ scratch_over all first start)
-  left_end es w scratch e l = (
-    sym (ap (λ (x : List Entry). window_over x w scratch) e ∙ over_none w scratch) ∙ l.gives,
-    sym (ap (λ (x : List Entry). scratch_over x w scratch) e ∙ left_none w scratch) ∙ l.leaves,
-  )
-
-  -- an entry
-  pub one_released : (es more : List Entry) (e : Entry) (w w' : Window) (scratch scratch' : List ℕ) → es ≡ e ∷ more
-      → w' ≡ window_after w scratch e → scratch' ≡ scratch_after w scratch e → Left es w scratch → Left more w' scratch'
-  one_released es more e w w' scratch scratch' split ew es' l = record {
-    long = ap length es' ∙ after_length w scratch e ∙ l.long;
-    gives = ap₂ (window_over more) ew es' ∙ sym (over_more e more w scratch)
-        ∙ ap (λ (x : List Entry). window_over x w scratch) (sym split) ∙ l.gives;
-    leaves = ap₂ (scratch_over more) ew es' ∙ sym (left_more e more w scratch)
-        ∙ ap (λ (x : List Entry). scratch_over x w scratch) (sym split) ∙ l.leaves;
-  }
-
-  -- some entries
-  pub some_released : (es some more : List Entry) (w w' : Window) (scratch scratch' : List ℕ) → es ≡ some ++ more
-      → w' ≡ window_over some w scratch → scratch' ≡ scratch_over some w scratch → Left es w scratch → Left more w' scratch'
-  some_released es some more w w' scratch scratch' split ew es' l =
-      let both = over_both some more w scratch in
-      record {
-        long = ap length es' ∙ over_length some w scratch ∙ l.long;
-        gives = ap₂ (window_over more) ew es' ∙ sym both.0
-            ∙ ap (λ (x : List Entry). window_over x w scratch) (sym split) ∙ l.gives;
-        leaves = ap₂ (scratch_over more) ew es' ∙ sym both.1
-            ∙ ap (λ (x : List Entry). scratch_over x w scratch) (sym split) ∙ l.leaves;
-      }
+        pub some_released : (next : List ℕ) → r ≡ true → (r ≡ true → next ≡ scratch_over some lo scratch)
+            → Left all first behind next
+        some_released next t en = record {
+          stands = ap₂ (λ (b : Bool) (l : List ℕ). b && parts_stand behind lo l) (sym t ∙ er) (en t)
+              ∙ sym (parts_split some behind scratch) ∙ ap (λ (l : List Entry). parts_stand l lo scratch) (sym split)
+              ∙ l.stands;
+          over = ap (scratch_over behind lo) (en t) ∙ sym (scratch_split some behind scratch)
+              ∙ ap (λ (l : List Entry). scratch_over l lo scratch) (sym split) ∙ l.over;
+        }

@@ -8,35 +8,30 @@ use block::BLOCK;
 use block_bytes::get4;
 use catalogue::Entry;
 use image_frames::{NUMBERS, number, place};
-use image_soundness::lesser;
 
 // The entry whose numbers stand together, from byte `at` of the image on.
 pub fn entry_here(image: &[u8], at: usize) -> Entry
     requires { at + 12 ≤ length image.now }
     ensures { result ≡ entry_from image.now at }
 {
-    let mark = get4(image, at);
-    let start = get4(image, at + 4);
-    let blocks = get4(image, at + 8);
     Entry {
-        mark: mark,
-        start: start,
-        length: blocks,
+        mark: get4(image, at),
+        start: get4(image, at + 4),
+        length: get4(image, at + 8),
     }
 }
 
-// The entry that stands at number k of the body, of which two frames may have a part.
+// The entry that stands at number k of the body, of which two frames may have a part. It stays a call: few entries do, and
+// beside entry_here, in a loop, the places of its numbers would be computed for every entry.
+#[inline(never)]
 pub fn entry_across(image: &[u8], k: usize) -> Entry
     requires { k + 2 ≤ 18446744073709551615 }
     ensures { result ≡ entry_from (body_of image.now) (4 * k) }
 {
-    let mark = number(image, k);
-    let start = number(image, k + 1);
-    let blocks = number(image, k + 2);
     Entry {
-        mark: mark,
-        start: start,
-        length: blocks,
+        mark: number(image, k),
+        start: number(image, k + 1),
+        length: number(image, k + 2),
     }
 }
 
@@ -58,5 +53,5 @@ pub fn together(sheet: usize, c: usize) -> usize
     requires { (sheet ≤ c) × (c ≤ 1024) }
     ensures { result ≡ min ((124 - (3 + 3 * sheet) % 124) / 3) (c - sheet) }
 {
-    lesser((NUMBERS - (3 + 3 * sheet) % NUMBERS) / 3, c - sheet)
+    (c - sheet).min((NUMBERS - (3 + 3 * sheet) % NUMBERS) / 3)
 }

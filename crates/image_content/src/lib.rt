@@ -4,157 +4,127 @@
 
 pub mod entries;
 
-ghost use Rattle.std.specs.Prelude.{◌≡◌, true, false, ◌&&◌, ◌+◌, ◌*◌, ◌≤◌, length};
+ghost use Rattle.std.specs.Prelude.{◌≡◌, true, ◌&&◌, ◌+◌, ◌*◌, ◌/◌, ◌≤◌, length};
 ghost use Rattle.map_blocks.specs.Maps.{words_for};
 ghost use Rattle.image_frames.specs.Frames.{total_of};
 ghost use Rattle.image_soundness.specs.Scratch.{scratch_words};
 ghost use Rattle.image_soundness.specs.Sound.{sound};
-ghost use Rattle.image_soundness.specs.Windows.{tally_of, copied, window_over, scratch_over, one_window};
-ghost use Rattle.image_soundness.specs.Windows.{one_scratch, windows_of, window_count};
+ghost use Rattle.image_soundness.specs.Windows.{tally_of, words_from, parts_stand, scratch_over, window_passes, windows_pass};
 ghost use Rattle.image.specs.Image.{blocks_in, free_count_in, sheets_in, entries_from, entries_in, map_in, state_in, filled};
 ghost use Rattle.image.specs.Table.{head_fits};
 
 use crate::entries::{entry_across, entry_here, together};
-use catalogue::Entry;
 use image::limits::words_for;
 use image_frames::{place, read_words, zeros_from};
-use image_soundness::words::clear;
-use image_soundness::{Tally, Window, lesser, tally_entry};
-use image_windows::{end_window, first_window, release_near, release_part, window_count};
+use image_soundness::tally_entry;
+use image_windows::{WINDOW, release_near, release_part};
+use map_blocks::run::is_fresh;
 
-// Counts entries that stand one behind the other in a frame, from byte `at` of the image on, up to one that does not count.
-fn tally_together(n: u32, first: Tally, image: &[u8], at: usize, count: usize) -> Tally
+// Counts entries that stand one behind the other in a frame, from byte `at` of the image on.
+fn tally_together(n: u32, blocks: u32, image: &[u8], at: usize, count: usize) -> Option<u32>
     requires { at + 12 * count ≤ length image.now }
-    ensures { result ≡ tally_of (entries_from image.now at count) n first }
+    ensures { result ≡ tally_of (entries_from image.now at count) n blocks }
 {
-    let mut tally = first;
-    let mut i: usize = 0;
-    while i < count {
-        tally = tally_entry(n, tally, entry_here(image, at + 12 * i));
-        if tally.stop {
-            return tally;
-        }
-        i += 1;
+    let mut left = blocks;
+    for i in 0..count {
+        left = tally_entry(n, left, entry_here(image, at + 12 * i))?;
     }
-    tally
+    Some(left)
 }
 
-// Counts the c entries that stand in an image, up to one that does not count: frame by frame, and the entry across two frames
-// apart.
-fn tally_in(n: u32, first: Tally, image: &[u8], c: usize) -> Tally
-    requires { (first.stop ≡ false) × (c ≤ 1024) × (3 + 3 * c ≤ 124 * total_of image.now) }
-    ensures { result ≡ tally_of (entries_in image.now c) n first }
+// Counts the c entries that stand in an image: frame by frame, and the entry across two frames apart.
+fn tally_in(n: u32, blocks: u32, image: &[u8], c: usize) -> Option<u32>
+    requires { (c ≤ 1024) × (3 + 3 * c ≤ 124 * total_of image.now) }
+    ensures { result ≡ tally_of (entries_in image.now c) n blocks }
 {
-    let mut tally = first;
+    let mut left = blocks;
     let mut sheet: usize = 0;
     while sheet < c {
         let count = together(sheet, c);
-        tally = tally_together(n, tally, image, place(3 + 3 * sheet), count);
+        left = tally_together(n, left, image, place(3 + 3 * sheet), count)?;
         sheet += count;
-        if tally.stop {
-            return tally;
-        }
         if c <= sheet {
-            return tally;
+            break;
         }
-        tally = tally_entry(n, tally, entry_across(image, 3 + 3 * sheet));
-        if tally.stop {
-            return tally;
-        }
+        left = tally_entry(n, left, entry_across(image, 3 + 3 * sheet))?;
         sheet += 1;
     }
-    tally
+    Some(left)
 }
 
-// Copies the words of a window to the scratch, of the map of n blocks that stands behind c entries.
-fn fill_in(image: &[u8], n: u32, c: usize, window: Window, scratch: &mut [u64])
+// Copies the words of the window from block lo on to the scratch, of the map of n blocks that stands behind c entries.
+fn fill_in(image: &[u8], n: u32, c: usize, lo: u32, scratch: &mut [u64])
     requires { (n ≤ 262144) × (c ≤ 1024) × (length scratch.old ≤ 64) }
-    ensures { scratch.new ≡ copied (map_in image.now n c) window scratch.old }
+    ensures { scratch.new ≡ words_from (map_in image.now n c) (lo / 64) (length scratch.old) }
 {
     let words = words_for(n);
-    let a = lesser((window.lo / 64) as usize, words);
-    let w = lesser(words - a, scratch.len());
-    clear(scratch);
+    let a = words.min((lo / 64) as usize);
+    let w = scratch.len().min(words - a);
+    scratch.fill(0);
     read_words(&mut scratch[..w], image, 3 + 3 * c + 2 * a);
 }
 
-// Releases the parts of extents whose entries stand one behind the other in a frame, from byte `at` of the image on. This is
-// the loop that a load goes through most: every entry, once for each window.
-fn release_together(
-    first: Window,
-    scratch: &mut [u64],
-    image: &[u8],
-    at: usize,
-    count: usize,
-) -> Window
+// Releases the parts of extents whose entries stand one behind the other in a frame, from byte `at` of the image on, up to one
+// that is not taken. This is the loop that a load goes through most: every entry, once for each window.
+fn release_together(lo: u32, scratch: &mut [u64], image: &[u8], at: usize, count: usize) -> bool
     requires { at + 12 * count ≤ length image.now }
-    ensures { (result ≡ window_over (entries_from image.now at count) first scratch.old)
-        × (scratch.new ≡ scratch_over (entries_from image.now at count) first scratch.old) }
+    ensures { (result ≡ parts_stand (entries_from image.now at count) lo scratch.old)
+        × (result ≡ true → scratch.new ≡ scratch_over (entries_from image.now at count) lo scratch.old) }
 {
-    let lo = first.lo;
-    let mut stop = first.stop;
-    let mut i: usize = 0;
-    while i < count {
-        let window = Window { lo: lo, stop: stop };
-        let next = release_near(window, scratch, entry_here(image, at + 12 * i));
-        stop = next.stop;
-        i += 1;
+    for i in 0..count {
+        if !release_near(lo, scratch, entry_here(image, at + 12 * i)) {
+            return false;
+        }
     }
-    Window { lo: lo, stop: stop }
+    true
 }
 
-// Releases the parts of the c extents that stand in an image: frame by frame, as they are counted.
-fn release_in(first: Window, scratch: &mut [u64], image: &[u8], c: usize) -> Window
+// Releases the parts of the c extents that stand in an image, up to one that is not taken: frame by frame, as they are counted.
+fn release_in(lo: u32, scratch: &mut [u64], image: &[u8], c: usize) -> bool
     requires { (c ≤ 1024) × (3 + 3 * c ≤ 124 * total_of image.now) }
-    ensures { (result ≡ window_over (entries_in image.now c) first scratch.old)
-        × (scratch.new ≡ scratch_over (entries_in image.now c) first scratch.old) }
+    ensures { (result ≡ parts_stand (entries_in image.now c) lo scratch.old)
+        × (result ≡ true → scratch.new ≡ scratch_over (entries_in image.now c) lo scratch.old) }
 {
-    let mut window = first;
     let mut sheet: usize = 0;
     while sheet < c {
         let count = together(sheet, c);
-        window = release_together(window, scratch, image, place(3 + 3 * sheet), count);
+        if !release_together(lo, scratch, image, place(3 + 3 * sheet), count) {
+            return false;
+        }
         sheet += count;
         if c <= sheet {
-            return window;
+            break;
         }
-        window = release_part(window, scratch, entry_across(image, 3 + 3 * sheet));
+        if !release_part(lo, scratch, entry_across(image, 3 + 3 * sheet)) {
+            return false;
+        }
         sheet += 1;
     }
-    window
+    true
 }
 
-// One window.
-fn test_window(image: &[u8], n: u32, c: usize, window: Window, scratch: &mut [u64]) -> Window
-    requires { (window.stop ≡ false) × (n ≤ 262144) × (c ≤ 1024) × (3 + 3 * c ≤ 124 * total_of image.now)
-        × (length scratch.old ≤ 64) }
-    ensures { (result ≡ one_window (map_in image.now n c) (entries_in image.now c) scratch.old n
-        window)
-        × (scratch.new ≡ one_scratch (map_in image.now n c) (entries_in image.now c)
-        scratch.old n window) }
+// Whether the window from block lo on is as it should be. It and the loop over windows are as those of a lent state (crate
+// image_windows): a trait over the two sources would have more lines than these have.
+fn test_window(image: &[u8], n: u32, c: usize, lo: u32, scratch: &mut [u64]) -> bool
+    requires { (lo ≤ n) × (n ≤ 262144) × (c ≤ 1024) × (3 + 3 * c ≤ 124 * total_of image.now) × (length scratch.old ≤ 64) }
+    ensures { result ≡ window_passes (map_in image.now n c) (entries_in image.now c) (length scratch.old) n lo }
 {
-    fill_in(image, n, c, window, scratch);
-    let last = release_in(window, scratch, image, c);
-    end_window(n, last, scratch)
+    fill_in(image, n, c, lo, scratch);
+    let stand = release_in(lo, scratch, image, c);
+    stand && is_fresh(scratch, n - lo)
 }
 
 // All windows, up to one that fails.
-fn test_windows(image: &[u8], n: u32, c: usize, first: Window, scratch: &mut [u64]) -> Window
+fn test_windows(image: &[u8], n: u32, c: usize, scratch: &mut [u64]) -> bool
     requires { (n ≤ 262144) × (c ≤ 1024) × (3 + 3 * c ≤ 124 * total_of image.now) × (length scratch.old ≤ 64) }
-    ensures { result.stop ≡ (windows_of (map_in image.now n c) (entries_in image.now c)
-        scratch.old n (window_count n first) first).stop }
+    ensures { result ≡ windows_pass (map_in image.now n c) (entries_in image.now c) (length scratch.old) n }
 {
-    let count = window_count(n, first);
-    let mut window = first;
-    let mut i: usize = 0;
-    while i < count {
-        if window.stop {
-            return window;
+    for i in 0..n.div_ceil(WINDOW) {
+        if !test_window(image, n, c, i * WINDOW, scratch) {
+            return false;
         }
-        window = test_window(image, n, c, window, scratch);
-        i += 1;
     }
-    window
+    true
 }
 
 // Whether the state that stands in an image is sound and the fill zero.
@@ -165,13 +135,10 @@ pub fn content_holds(image: &[u8], n: u32, free: u32, c: usize, scratch: &mut [u
     ensures { result ≡ (sound (state_in image.now) && filled image.now (blocks_in image.now)
         (sheets_in image.now)) }
 {
-    let first = Tally {
-        left: n - free,
-        stop: false,
-    };
-    let tally = tally_in(n, first, image, c);
-    let last = test_windows(image, n, c, first_window(tally), scratch);
-    if last.stop {
+    if tally_in(n, n - free, image, c) != Some(0) {
+        return false;
+    }
+    if !test_windows(image, n, c, scratch) {
         return false;
     }
     zeros_from(image, 3 + 3 * c + 2 * words_for(n))

@@ -5,3 +5,4 @@ pub mod Numbered
 pub mod Stored
 pub mod Framing
 pub mod Recovered
+pub mod Ranges

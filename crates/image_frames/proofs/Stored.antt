@@ -2,7 +2,7 @@
 -- Assumes nothing.
 use mathlib.Core.Path.{◌≡◌, refl, sym, ap, ap₂, subst, ◌∙◌}
 use mathlib.Core.Logic.{⊎_elim}
-use mathlib.Core.Bool.{true, false}
+use mathlib.Core.Bool.{true}
 use mathlib.Core.List.{List, [], ◌∷◌, ◌++◌, append_assoc, append-nil}
 use Prim.Native.Nat.{ℕ, zero, suc, ◌+◌, ◌-◌, ◌*◌, ◌/◌, ◌%◌, ◌≤◌, ◌<◌}
 use native.Mathlib.Nat.{add-zero}
@@ -13,7 +13,11 @@ use lib.ListN.{replicate-append-replicate, get_or-append}
 use lib.Seq.{ext_get_or, take-suc, take_all, length-take-le, get_or-take, get_or-drop, get_or-append-add, get_or-set_same}
 use lib.Seq.{get_or-set_other}
 use borrow.Rule.Slice.PartMut.{mid_of, put_mid, same_len_mid}
-use Rattle.laws.proofs.Bools.{order, not_true}
+use borrow.Author.Tests.{eqb-true, eq-eqb}
+use lib.Dec.{eqb}
+use Rattle.map_blocks.specs.Blocks.{all}
+use Rattle.map_blocks.proofs.Runs.{all_intro, all_elim}
+use Rattle.laws.proofs.Bools.{order, both_ways}
 use Rattle.block_bytes.specs.Numbers.{bytes4, number_at}
 use Rattle.block_seals.specs.Sealed.{blank}
 use Rattle.block_seals.proofs.Blank.{blank_zeros, blank_is_zeros}
@@ -246,10 +250,9 @@ zeros_at (suc n) (suc y) = zeros_at n y
 
 -- the fill, number by number
 module _ (image : List ℕ) (k : ℕ) where
-  pub zeros_all : (i : ℕ) → 124 * total_of image ≤ i → ((j : ℕ) → k ≤ j → j < i → number_in image j ≡ 0)
-      → true ≡ blank (drop (4 * k) (body_of image))
+  zeros_all : ((j : ℕ) → k ≤ j → j < 124 * total_of image → number_in image j ≡ 0) → blank (drop (4 * k) (body_of image)) ≡ true
   unfolding number_in
-  zeros_all i h passed =
+  zeros_all passed =
       let rest : List ℕ = drop (4 * k) (body_of image) in
       let same : rest ≡ replicate (length rest) 0 =
       ext_get_or 0 rest (replicate (length rest) 0) (sym (length-replicate {A = ℕ} (length rest) 0)) (λ y u.
@@ -258,13 +261,21 @@ module _ (image : List ℕ) (k : ℕ) where
       ∙ bytes_zero (body_of image) (4 * (k + y / 4)) (y % 4) (omega arith)
       (passed (k + y / 4) (omega arith) (omega (arith, length-drop (4 * k) (body_of image), body_length image)))
       ∙ sym (zeros_at (length rest) y)) in
-      sym (ap blank same ∙ blank_zeros (length rest))
+      ap blank same ∙ blank_zeros (length rest)
 
-  pub zeros_not : (i : ℕ) → k ≤ i → (number_in image i ≡ 0 → ⊥) → false ≡ blank (drop (4 * k) (body_of image))
+  zero_behind : blank (drop (4 * k) (body_of image)) ≡ true → (i : ℕ) → k ≤ i → number_in image i ≡ 0
   unfolding number_in
-  zeros_not i o n =
+  zero_behind b i o =
       let rest : List ℕ = drop (4 * k) (body_of image) in
-      sym (not_true (blank rest) (λ b. n (number_zero (body_of image) (4 * i) (λ y.
+      number_zero (body_of image) (4 * i) (λ y.
       let e : 4 * i + y ≡ 4 * k + (4 * (i - k) + y) = omega arith in
       ap (λ (x : ℕ). get_or (body_of image) x 0) e ∙ sym (get_or-drop (4 * k) (body_of image) (4 * (i - k) + y) 0)
-      ∙ ap (λ (l : List ℕ). get_or l (4 * (i - k) + y) 0) (blank_is_zeros rest b) ∙ zeros_at (length rest) (4 * (i - k) + y)))))
+      ∙ ap (λ (l : List ℕ). get_or l (4 * (i - k) + y) 0) (blank_is_zeros rest b) ∙ zeros_at (length rest) (4 * (i - k) + y))
+
+  pub zeros_told : (m : ℕ) → m ≡ 124 * total_of image - k
+      → all (λ i. eqb (number_in image i) 0) k m ≡ blank (drop (4 * k) (body_of image))
+  zeros_told m e =
+      both_ways (all (λ i. eqb (number_in image i) 0) k m) (blank (drop (4 * k) (body_of image)))
+      (λ h. zeros_all (λ j l u.
+      eqb-true (number_in image j) 0 (all_elim (λ i. eqb (number_in image i) 0) k m h j l (omega arith))))
+      (λ b. all_intro (λ i. eqb (number_in image i) 0) k m (λ j l u. eq-eqb (number_in image j) 0 (zero_behind b j l)))

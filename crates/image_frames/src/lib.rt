@@ -54,10 +54,8 @@ pub fn put_zeros(image: &mut [u8], k: usize)
         (replicate (496 * total_of image.old - 4 * k) 0) }
 {
     let end = NUMBERS * (image.len() / BLOCK);
-    let mut i = k;
-    while i < end {
+    for i in k..end {
         put_number(image, i, 0);
-        i += 1;
     }
 }
 
@@ -67,14 +65,7 @@ pub fn zeros_from(image: &[u8], k: usize) -> bool
     ensures { result ≡ blank (drop (4 * k) (body_of image.now)) }
 {
     let end = NUMBERS * (image.len() / BLOCK);
-    let mut i = k;
-    while i < end {
-        if number(image, i) != 0 {
-            return false;
-        }
-        i += 1;
-    }
-    true
+    (k..end).all(|i| number(image, i) == 0)
 }
 
 // The word that is stored in the numbers k and k + 1.
@@ -88,6 +79,7 @@ fn word(image: &[u8], k: usize) -> u64
 }
 
 // The word that stands whole in a frame, from byte `at` of the image on.
+// It is `word` without looking for the places of its halves, since most words stand whole.
 fn word_here(image: &[u8], at: usize) -> u64
     requires { at + 8 ≤ length image.now }
     ensures { result ≡ word_at image.now at }
@@ -102,10 +94,8 @@ fn read_together(words: &mut [u64], image: &[u8], at: usize)
     requires { at + 8 * length words.old ≤ length image.now }
     ensures { words.new ≡ words_at image.now at (length words.old) }
 {
-    let mut i: usize = 0;
-    while i < words.len() {
-        words[i] = word_here(image, at + 8 * i);
-        i += 1;
+    for (i, word) in words.iter_mut().enumerate() {
+        *word = word_here(image, at + 8 * i);
     }
 }
 
@@ -113,8 +103,7 @@ fn read_together(words: &mut [u64], image: &[u8], at: usize)
 fn words_together(k: usize, most: usize) -> usize
     ensures { result ≡ min ((124 - k % 124) / 2) most }
 {
-    let whole = (NUMBERS - k % NUMBERS) / 2;
-    if whole < most { whole } else { most }
+    most.min((NUMBERS - k % NUMBERS) / 2)
 }
 
 // Reads the words that stand whole in the frame of number k, from there on, and gives their number.
@@ -153,12 +142,9 @@ pub fn write_words(image: &mut [u8], k: usize, words: &[u64])
     ensures { body_of image.new ≡ replaced (body_of image.old) (4 * k)
         (word_bytes words.now) }
 {
-    let mut i: usize = 0;
-    while i < words.len() {
-        let word = words[i];
+    for (i, &word) in words.iter().enumerate() {
         put_number(image, k + 2 * i, (word / 4294967296) as u32);
         put_number(image, k + 2 * i + 1, (word % 4294967296) as u32);
-        i += 1;
     }
 }
 
@@ -168,14 +154,7 @@ pub fn all_framed(image: &[u8]) -> bool
     ensures { result ≡ framed image.now }
 {
     let total = (image.len() / BLOCK) as u32;
-    let mut i: u32 = 0;
-    while i < total {
-        if !sound_block(image, i, i, total) {
-            return false;
-        }
-        i += 1;
-    }
-    true
+    (0..total).all(|i| sound_block(image, i, i, total))
 }
 
 // Seals what image block i carries.
@@ -195,9 +174,7 @@ pub fn seal_all(image: &mut [u8])
     ensures { image.new ≡ sealed_image image.old }
 {
     let total = (image.len() / BLOCK) as u32;
-    let mut i: u32 = 0;
-    while i < total {
+    for i in 0..total {
         seal_frame(image, i, total);
-        i += 1;
     }
 }

@@ -1,80 +1,108 @@
--- What the parts of a load come to, one after the other, is what a load gives and leaves.
+-- What a load gives and leaves, by its number.
 -- Assumes nothing.
 use mathlib.Core.Path.{◌≡◌, refl, sym, ap, ap₂, ◌∙◌}
-use mathlib.Core.Bool.{Bool, true, false, not}
-use mathlib.Core.List.{List, [], ◌∷◌}
-use Prim.Native.Nat.{ℕ, ◌+◌, ◌*◌, ◌≤◌}
+use mathlib.Core.Bool.{Bool}
+use mathlib.Core.List.{List}
+use Prim.Native.Nat.{ℕ, zero, suc, ◌+◌, ◌*◌, ◌≤◌, ◌<◌}
 use native.Mathlib.Omega.{arith}
-use lib.Dec.{eqb}
-use lib.ListN.{length}
-use borrow.Author.Tests.{ne_eqb}
-use Rattle.roles.specs.Roles as names
-use Rattle.roles.specs.Roles.{turned_away}
+use lib.ListN.{length, get_or, replicate}
+use lib.Seq.{ext_get_or}
+use Rattle.catalogue_standings.specs.Refusals.{number}
 use Rattle.catalogue_standings.specs.Rows.{Verdict, accepted, refused, settle, row_number}
+use Rattle.catalogue_standings.specs.declared.Refusal.{Refusal}
+use Rattle.catalogue.specs.Entries.{zeros}
 use Rattle.catalogue.specs.declared.Entry.{Entry}
-use Rattle.image_frames.specs.Frames.{body_of, total_of}
-use Rattle.image.specs.Cursors.{cursor}
-use Rattle.image.specs.Effects.{load_result, load_map, load_entries, load_scratch}
-use Rattle.image.specs.Image.{blocks_in, free_count_in, sheets_in, entry_from, entries_from, entries_in, state_in}
-use Rattle.image_load.specs.Parts.{LoadsBy, core_loaded, core_map, core_scratch, first_cursor, read_entries}
+use Rattle.image_frames.specs.Frames.{body_of}
+use Rattle.image_frames.specs.Numbers.{words_at}
+use Rattle.image.specs.Effects.{Answered, load_result, load_map, load_entries, load_scratch}
+use Rattle.image.specs.Image.{blocks_in, free_count_in, sheets_in, entry_from, entries_from, entries_in, state_in, map_in}
 use Rattle.image.specs.Table.{load_verdict}
-use Rattle.image.specs.declared.Loaded.{Loaded}
-use Rattle.image_load.specs.declared.Turn.{Turn}
-use Rattle.image.proofs.Cursors.{going}
-use Rattle.image.proofs.Fitting.{whole_to, head_to, load_fits_to}
+use Rattle.image.proofs.Fitting.{head_to, load_fits_to}
+use Rattle.image.proofs.Refused.{not_zero}
 use Rattle.image.proofs.Verdicts.{load_accepted, accepted_to}
-use Rattle.image_load.proofs.Reading.{reads, entries_stay}
+use Rattle.image_load.proofs.Heads.{map_read}
 
--- the entries read from number k on
-read_from_lem : (image : List ℕ) (k at : ℕ) (es : List Entry) → at ≡ 4 * k → k + 3 * length es ≤ length image
-    → read_entries es image (cursor k false) ≡ entries_from (body_of image) at (length es)
-unfolding read_entries entries_from
-read_from_lem image k at [] e room = refl
-read_from_lem image k at (x ∷ es) e room =
-    ap (λ (t : Turn). t.entry ∷ read_entries es image t.state)
-    (sym (reads (cursor k false) image x (going (cursor k false) image refl (omega arith))))
-    ∙ ap₂ (λ (y : Entry) (l : List Entry). y ∷ l) (ap (entry_from (body_of image)) (sym e))
-    (read_from_lem image (k + 3) (at + 12) es (omega arith) (omega arith))
+-- the entries that stand in an image, one by one
+entries_long : (bytes : List ℕ) (at c : ℕ) → length (entries_from bytes at c) ≡ c
+unfolding entries_from
+entries_long bytes at zero = refl
+entries_long bytes at (suc c) = ap suc (entries_long bytes (at + 12) c)
 
-never : (k : ℕ) → refused k ≡ accepted → ⊥
-never k q = let z : ◌≡◌ {A = ℕ} 0 1 = ap (λ (v : Verdict). settle v 1 (λ j. 0)) q in omega arith
+entries_at : (bytes : List ℕ) (at c i : ℕ) → i < c → get_or (entries_from bytes at c) i zeros ≡ entry_from bytes (at + 12 * i)
+unfolding entries_from
+entries_at bytes at zero i h = absurd (omega arith)
+entries_at bytes at (suc c) zero h = let e : at ≡ at + 12 * 0 = omega arith in ap (entry_from bytes) e
+entries_at bytes at (suc c) (suc i) h =
+    let e : at + 12 + 12 * i ≡ at + 12 * suc i = omega arith in
+    entries_at bytes (at + 12) c i (omega arith) ∙ ap (entry_from bytes) e
 
-abbrev loaded : ℕ → ℕ → ℕ → Loaded
-loaded number n spare = record { number = number; blocks = n; free = spare }
+abbrev answer : ℕ → ℕ → ℕ → Answered
+answer number n spare = record { number = number; blocks = n; free = spare }
 
-module _ (role : ℕ) (image map : List ℕ) (entries : List Entry) (scratch : List ℕ) where
-  abbrev turned : Bool
-  turned = turned_away role names.load
-
+module _ (turned : Bool) (image map : List ℕ) (entries : List Entry) (scratch : List ℕ) where
   abbrev verdict : Verdict
   verdict = load_verdict turned image (length map) (length entries) (length scratch)
 
-  abbrev given : Verdict → Loaded
-  given v = settle v (loaded 0 (blocks_in image) (free_count_in image)) (λ number. loaded number 0 0)
-
-  entries_law : read_entries entries image (first_cursor (core_loaded role image map (length entries) scratch))
-      ≡ load_entries turned image map entries scratch
-  unfolding core_loaded first_cursor load_entries entries_in
-  entries_law = by verdict refl
+  -- a refusal: nothing is changed
+  pub refused_load : (r : Refusal) → number r ≡ row_number verdict
+      → (answer (number r) 0 0 ≡ load_result turned image map entries scratch)
+      × (map ≡ load_map turned image map entries scratch) × (entries ≡ load_entries turned image map entries scratch)
+  unfolding load_result load_map load_entries
+  refused_load r e = by verdict (number r) e (not_zero r)
     where
-      by : (v : Verdict) → verdict ≡ v → read_entries entries image (cursor 3 (not (eqb (given v).number 0)))
-          ≡ settle v (state_in image).entries (λ number. entries)
-      by accepted e =
-          let p = accepted_to turned image (length map) (length entries) (length scratch) e in
-          let w = whole_to (length image) p.blocks in
-          let h = head_to (blocks_in image) (free_count_in image) (sheets_in image) (total_of image) p.first in
-          let l = load_fits_to (blocks_in image) (sheets_in image) (length map) (length entries) (length scratch) p.lengths in
-          read_from_lem image 3 12 entries refl (omega (arith, w.exact, h.exact, l.entries)) ∙ ap (entries_in image) l.entries
-      by (refused k) e =
-          let n : k ≡ 0
-          → ⊥ = λ z. never k (sym e ∙ load_accepted turned image (length map) (length entries) (length scratch)
-          (ap row_number e ∙ z)) in
-          ap (λ (b : Bool). read_entries entries image (cursor 3 (not b))) (ne_eqb k 0 n)
-          ∙ entries_stay entries image (cursor 3 true) refl
+      by : (v : Verdict) (k : ℕ) → k ≡ row_number v → (k ≡ 0 → ⊥)
+          → (answer k 0 0 ≡ settle v (answer 0 (blocks_in image) (free_count_in image)) (λ number. answer number 0 0))
+          × (map ≡ settle v (state_in image).map (λ number. map))
+          × (entries ≡ settle v (state_in image).entries (λ number. entries))
+      by accepted k e h = absurd (h e)
+      by (refused j) k e h = (ap (λ (x : ℕ). answer x 0 0) e, refl, refl)
 
-  pub loads : LoadsBy role image map entries scratch (core_loaded role image map (length entries) scratch)
-      (core_map role image map (length entries) scratch)
-      (read_entries entries image (first_cursor (core_loaded role image map (length entries) scratch)))
-      (core_scratch role image map (length entries) scratch)
-  unfolding core_loaded core_map core_scratch load_result load_map load_scratch
-  loads = (refl, refl, entries_law, refl)
+  pub cleared : (left : List ℕ) → left ≡ replicate (length scratch) 0 → left ≡ load_scratch turned image map entries scratch
+  unfolding load_scratch
+  cleared left e = e
+
+  -- an accepted load
+  module _ (zero : 0 ≡ row_number verdict) where
+    is_accepted : verdict ≡ accepted
+    is_accepted = load_accepted turned image (length map) (length entries) (length scratch) (sym zero)
+
+    pub lengths : (length entries ≤ 1024) × (length map ≤ 4096)
+    lengths =
+        let p = accepted_to turned image (length map) (length entries) (length scratch) is_accepted in
+        let h = head_to (blocks_in image) (free_count_in image) (sheets_in image) _ p.first in
+        let l = load_fits_to (blocks_in image) (sheets_in image) (length map) (length entries) (length scratch) p.lengths in
+        (omega (arith, h.count.few, l.entries), omega (arith, h.limits.limit, l.words))
+
+    pub loaded_answer : (n spare : ℕ) → n ≡ blocks_in image → spare ≡ free_count_in image
+        → answer 0 n spare ≡ load_result turned image map entries scratch
+    unfolding load_result
+    loaded_answer n spare en es =
+        ap₂ (answer 0) en es
+        ∙ ap (λ (v : Verdict). settle v (answer 0 (blocks_in image) (free_count_in image)) (λ k. answer k 0 0))
+        (sym is_accepted)
+
+    pub loaded_map : (words : List ℕ) → words ≡ words_at (body_of image) (4 * (3 + 3 * length entries)) (length map)
+        → words ≡ load_map turned image map entries scratch
+    unfolding load_map
+    loaded_map words e =
+        let p = accepted_to turned image (length map) (length entries) (length scratch) is_accepted in
+        let l = load_fits_to (blocks_in image) (sheets_in image) (length map) (length entries) (length scratch) p.lengths in
+        map_read image (blocks_in image) (length entries) (length map) words l.words e
+        ∙ ap (map_in image (blocks_in image)) l.entries
+        ∙ ap (λ (v : Verdict). settle v (state_in image).map (λ k. map)) (sym is_accepted)
+
+    pub loaded_entries : (now : List Entry) (i : ℕ) → length now ≡ length entries → length entries ≤ i
+        → ((j : ℕ) → j < i → get_or now j zeros ≡ entry_from (body_of image) (4 * (3 + 3 * j)))
+        → now ≡ load_entries turned image map entries scratch
+    unfolding load_entries entries_in
+    loaded_entries now i long h read =
+        let p = accepted_to turned image (length map) (length entries) (length scratch) is_accepted in
+        let l = load_fits_to (blocks_in image) (sheets_in image) (length map) (length entries) (length scratch) p.lengths in
+        ext_get_or zeros now (entries_from (body_of image) 12 (length entries))
+        (long ∙ sym (entries_long (body_of image) 12 (length entries)))
+        (λ j u.
+        let a : 4 * (3 + 3 * j) ≡ 12 + 12 * j = omega arith in
+        read j (omega arith) ∙ ap (entry_from (body_of image)) a
+        ∙ sym (entries_at (body_of image) 12 (length entries) j (omega arith)))
+        ∙ ap (entries_from (body_of image) 12) l.entries
+        ∙ ap (λ (v : Verdict). settle v (state_in image).entries (λ k. entries)) (sym is_accepted)

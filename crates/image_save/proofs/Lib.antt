@@ -1,5 +1,3 @@
--- What the parts of a save come to.
-pub mod Room
-pub mod Writing
+-- The rows of a save, and what the writing of an image comes to.
 pub mod SaveRows
 pub mod Saves

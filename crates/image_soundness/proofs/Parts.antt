@@ -3,7 +3,7 @@
 -- Assumes nothing.
 use mathlib.Core.Path.{◌≡◌, refl, sym, ap, ap₂, ◌∙◌}
 use mathlib.Core.Logic.{⊎_elim}
-use mathlib.Core.Bool.{Bool, true, false, not, cond}
+use mathlib.Core.Bool.{Bool, true, false, not, ◌&&◌, cond}
 use mathlib.Core.List.{List, [], ◌∷◌}
 use Prim.Native.Nat.{ℕ, ◌+◌, ◌-◌, ◌*◌, ◌≤◌, ◌<◌, min}
 use native.Mathlib.Omega.{arith}
@@ -16,64 +16,61 @@ use Rattle.laws.proofs.Bools.{and_right, and_both, both_ways, clash}
 use Rattle.map_blocks.proofs.Maps.{marked_length, map_free}
 use Rattle.map_blocks.proofs.Runs.{all_intro, all_elim}
 use Rattle.catalogue.specs.declared.Entry.{Entry}
-use Rattle.image_soundness.specs.Windows.{window, part_from, part_to, touches, taken, part_taken, window_after, scratch_after}
-use Rattle.image_soundness.specs.Windows.{window_over, scratch_over}
+use Rattle.image_soundness.specs.Windows.{part_from, part_to, touches, taken, part_taken, part_stands, scratch_after}
+use Rattle.image_soundness.specs.Windows.{parts_stand, scratch_over}
 use Rattle.image_soundness.specs.Sound.{coverings, undamaged}
-use Rattle.image_soundness.specs.declared.Window.{Window}
 use Rattle.image_soundness.proofs.Covers.{decide, one, same_one, run_in, in_run_lem, head_undamaged, tail_undamaged}
 use Rattle.image_soundness.proofs.Damage.{extent_inside}
 
 -- ---- one entry
 
-module _ (w : Window) (scratch : List ℕ) (e : Entry) where
+module _ (lo : ℕ) (scratch : List ℕ) (e : Entry) where
   abbrev part_start : ℕ
-  part_start = part_from w.lo e - w.lo
+  part_start = part_from lo e - lo
 
   abbrev part_blocks : ℕ
-  part_blocks = part_to w.lo e - part_from w.lo e
+  part_blocks = part_to lo e - part_from lo e
 
-  pub step_past : touches w.lo e ≡ false → (w ≡ window_after w scratch e) × (scratch ≡ scratch_after w scratch e)
-  unfolding window_after scratch_after
+  pub step_past : touches lo e ≡ false → (true ≡ part_stands lo scratch e) × (scratch ≡ scratch_after lo scratch e)
+  unfolding part_stands scratch_after
   step_past t = (simp t, simp t)
 
-  pub step_fails : touches w.lo e ≡ true → part_taken w.lo scratch e ≡ false
-      → (window w.lo true ≡ window_after w scratch e) × (scratch ≡ scratch_after w scratch e)
-  unfolding window_after scratch_after
+  pub step_fails : touches lo e ≡ true → part_taken lo scratch e ≡ false
+      → (false ≡ part_stands lo scratch e) × (scratch ≡ scratch_after lo scratch e)
+  unfolding part_stands scratch_after
   step_fails t p = (simp (t, p), simp (t, p))
 
-  pub step_releases : touches w.lo e ≡ true → part_taken w.lo scratch e ≡ true
-      → (w ≡ window_after w scratch e) × (marked scratch part_start part_blocks true ≡ scratch_after w scratch e)
-  unfolding window_after scratch_after
+  pub step_releases : touches lo e ≡ true → part_taken lo scratch e ≡ true
+      → (true ≡ part_stands lo scratch e) × (marked scratch part_start part_blocks true ≡ scratch_after lo scratch e)
+  unfolding part_stands scratch_after
   step_releases t p = (simp (t, p), simp (t, p))
 
 -- the same by the ends of the part, as they were found
-module _ (w : Window) (scratch : List ℕ) (e : Entry) (from to : ℕ) (ef : from ≡ part_from w.lo e)
-    (et : to ≡ part_to w.lo e) where
-  none_here : to ≤ from → touches w.lo e ≡ false
+module _ (lo : ℕ) (scratch : List ℕ) (e : Entry) (from to : ℕ) (ef : from ≡ part_from lo e) (et : to ≡ part_to lo e) where
+  none_here : to ≤ from → touches lo e ≡ false
   unfolding touches
-  none_here h = le-ltb (part_from w.lo e) (part_to w.lo e) (omega arith)
+  none_here h = le-ltb (part_from lo e) (part_to lo e) (omega arith)
 
-  some_here : from < to → touches w.lo e ≡ true
+  some_here : from < to → touches lo e ≡ true
   unfolding touches
-  some_here h = lt-ltb (part_from w.lo e) (part_to w.lo e) (omega arith)
+  some_here h = lt-ltb (part_from lo e) (part_to lo e) (omega arith)
 
-  same_part : (f : ℕ → ℕ → Bool)
-      → f (from - w.lo) (to - from) ≡ f (part_from w.lo e - w.lo) (part_to w.lo e - part_from w.lo e)
-  same_part f = ap₂ (λ (a b : ℕ). f (a - w.lo) (b - a)) ef et
+  same_part : (f : ℕ → ℕ → Bool) → f (from - lo) (to - from) ≡ f (part_from lo e - lo) (part_to lo e - part_from lo e)
+  same_part f = ap₂ (λ (a b : ℕ). f (a - lo) (b - a)) ef et
 
-  pub part_past : to ≤ from → (w ≡ window_after w scratch e) × (scratch ≡ scratch_after w scratch e)
-  part_past h = step_past w scratch e (none_here h)
+  pub part_past : to ≤ from → (true ≡ part_stands lo scratch e) × (scratch ≡ scratch_after lo scratch e)
+  part_past h = step_past lo scratch e (none_here h)
 
   module _ (h : from < to) where
-    pub part-fails : taken scratch (from - w.lo) (to - from) ≡ false
-        → (window w.lo true ≡ window_after w scratch e) × (scratch ≡ scratch_after w scratch e)
-    part-fails p = step_fails w scratch e (some_here h) (sym (same_part (taken scratch)) ∙ p)
+    pub part-fails : taken scratch (from - lo) (to - from) ≡ false
+        → (false ≡ part_stands lo scratch e) × (scratch ≡ scratch_after lo scratch e)
+    part-fails p = step_fails lo scratch e (some_here h) (sym (same_part (taken scratch)) ∙ p)
 
-    pub part-releases : taken scratch (from - w.lo) (to - from) ≡ true
-        → (w ≡ window_after w scratch e) × (marked scratch (from - w.lo) (to - from) true ≡ scratch_after w scratch e)
+    pub part-releases : taken scratch (from - lo) (to - from) ≡ true
+        → (true ≡ part_stands lo scratch e) × (marked scratch (from - lo) (to - from) true ≡ scratch_after lo scratch e)
     part-releases p =
-        let r = step_releases w scratch e (some_here h) (sym (same_part (taken scratch)) ∙ p) in
-        (r.0, ap₂ (λ (a b : ℕ). marked scratch (a - w.lo) (b - a) true) ef et ∙ r.1)
+        let r = step_releases lo scratch e (some_here h) (sym (same_part (taken scratch)) ∙ p) in
+        (r.0, ap₂ (λ (a b : ℕ). marked scratch (a - lo) (b - a) true) ef et ∙ r.1)
 
 -- a release in the scratch
 marked_free : (scratch : List ℕ) (s l b : ℕ) → b < 64 * length scratch
@@ -135,54 +132,30 @@ module _ (lo : ℕ) (scratch : List ℕ) (e : Entry) where
 
 -- ---- all entries
 
--- what failed before stays so, and the window is the same
-after_stopped : (w : Window) (scratch : List ℕ) (e : Entry) → w.stop ≡ true → (window_after w scratch e).stop ≡ true
-unfolding window_after
-after_stopped w scratch e s = by (touches w.lo e) (part_taken w.lo scratch e)
-  where
-    by : (a b : Bool) → (cond a (cond b w (window w.lo true)) w).stop ≡ true
-    by true true = s
-    by true false = refl
-    by false b = s
-
-pub after_lo : (w : Window) (scratch : List ℕ) (e : Entry) → (window_after w scratch e).lo ≡ w.lo
-unfolding window_after
-after_lo w scratch e = by (touches w.lo e) (part_taken w.lo scratch e)
-  where
-    by : (a b : Bool) → (cond a (cond b w (window w.lo true)) w).lo ≡ w.lo
-    by true true = refl
-    by true false = refl
-    by false b = refl
-
-pub over_stopped : (es : List Entry) (w : Window) (scratch : List ℕ) → w.stop ≡ true → (window_over es w scratch).stop ≡ true
-unfolding window_over
-over_stopped [] w scratch s = s
-over_stopped (e ∷ es) w scratch s =
-    over_stopped es (window_after w scratch e) (scratch_after w scratch e) (after_stopped w scratch e s)
-
-pub over_lo : (es : List Entry) (w : Window) (scratch : List ℕ) → (window_over es w scratch).lo ≡ w.lo
-unfolding window_over
-over_lo [] w scratch = refl
-over_lo (e ∷ es) w scratch = over_lo es (window_after w scratch e) (scratch_after w scratch e) ∙ after_lo w scratch e
-
-module _ (w : Window) (scratch : List ℕ) (e : Entry) (es : List Entry) where
-  over_on : (next : List ℕ) → (w ≡ window_after w scratch e) × (next ≡ scratch_after w scratch e)
-      → (window_over (e ∷ es) w scratch ≡ window_over es w next) × (scratch_over (e ∷ es) w scratch ≡ scratch_over es w next)
-  unfolding window_over scratch_over
-  over_on next a = (ap₂ (window_over es) (sym a.0) (sym a.1), ap₂ (scratch_over es) (sym a.0) (sym a.1))
-
-  over_off : (window_after w scratch e).stop ≡ true → (window_over (e ∷ es) w scratch).stop ≡ true
-  unfolding window_over
-  over_off s = over_stopped es (window_after w scratch e) (scratch_after w scratch e) s
-
 module _ (lo : ℕ) where
+  -- one entry, and those behind
+  over_on : (scratch : List ℕ) (e : Entry) (es : List Entry) (behind : List ℕ)
+      → (true ≡ part_stands lo scratch e) × (behind ≡ scratch_after lo scratch e)
+      → (parts_stand (e ∷ es) lo scratch ≡ parts_stand es lo behind)
+      × (scratch_over (e ∷ es) lo scratch ≡ scratch_over es lo behind)
+  unfolding parts_stand scratch_over
+  over_on scratch e es behind a = (
+    ap₂ (λ (b : Bool) (l : List ℕ). b && parts_stand es lo l) (sym a.0) (sym a.1),
+    ap (scratch_over es lo) (sym a.1),
+  )
+
+  over_off : (scratch : List ℕ) (e : Entry) (es : List Entry) → part_stands lo scratch e ≡ false
+      → parts_stand (e ∷ es) lo scratch ≡ false
+  unfolding parts_stand
+  over_off scratch e es s = ap (λ (b : Bool). b && parts_stand es lo (scratch_after lo scratch e)) s
+
   -- each block of the window is free afterwards as often as it was free or covered
   abbrev Adds : List Entry → List ℕ → List ℕ → Type 0
   Adds es scratch after = (b : ℕ) → b < 64 * length scratch → b < 4096
       → coverings es (lo + b) + one (free scratch b) ≡ one (free after b)
 
-  pub over_adds : (es : List Entry) (scratch : List ℕ) → (window_over es (window lo false) scratch).stop ≡ false
-      → Adds es scratch (scratch_over es (window lo false) scratch)
+  pub over_adds : (es : List Entry) (scratch : List ℕ) → parts_stand es lo scratch ≡ true
+      → Adds es scratch (scratch_over es lo scratch)
   unfolding coverings scratch_over
   over_adds [] scratch o b h k = omega arith
   over_adds (e ∷ es) scratch o b h k =
@@ -191,27 +164,26 @@ module _ (lo : ℕ) where
       ⊎_elim
       (λ (p : part_taken lo scratch e ≡ true).
       let next : List ℕ = marked scratch (part_from lo e - lo) (part_to lo e - part_from lo e) true in
-      let on = over_on (window lo false) scratch e es next (step_releases (window lo false) scratch e t p) in
+      let on = over_on scratch e es next (step_releases lo scratch e t p) in
       let long : length next ≡ length scratch = marked_length scratch (part_from lo e - lo) (part_to lo e - part_from lo e)
       true in
-      let rest : coverings es (lo + b) + one (free next b) ≡ one (free (scratch_over es (window lo false) next) b) =
-      over_adds es next (ap (λ (x : Window). x.stop) (sym on.0) ∙ o) b (omega arith) k in
+      let rest : coverings es (lo + b) + one (free next b) ≡ one (free (scratch_over es lo next) b) =
+      over_adds es next (sym on.0 ∙ o) b (omega arith) k in
       let m = moved lo scratch e t p b h k in
-      let ends : one (free (scratch_over (e ∷ es) (window lo false) scratch) b)
-      ≡ one (free (scratch_over es (window lo false) next) b) = ap (λ (l : List ℕ). one (free l b)) on.1 in
+      let ends : one (free (scratch_over (e ∷ es) lo scratch) b)
+      ≡ one (free (scratch_over es lo next) b) = ap (λ (l : List ℕ). one (free l b)) on.1 in
       omega arith)
       (λ (p : part_taken lo scratch e ≡ false).
-      let s : (window_after (window lo false) scratch e).stop ≡ true =
-      ap (λ (x : Window). x.stop) (sym (step_fails (window lo false) scratch e t p).0) in
-      absurd (clash (window_over (e ∷ es) (window lo false) scratch).stop (over_off (window lo false) scratch e es s) o))
+      absurd (clash (parts_stand (e ∷ es) lo scratch) o
+      (over_off scratch e es (sym (step_fails lo scratch e t p).0))))
       (decide (part_taken lo scratch e)))
       (λ (t : touches lo e ≡ false).
-      let on = over_on (window lo false) scratch e es scratch (step_past (window lo false) scratch e t) in
-      let rest : coverings es (lo + b) + one (free scratch b) ≡ one (free (scratch_over es (window lo false) scratch) b) =
-      over_adds es scratch (ap (λ (x : Window). x.stop) (sym on.0) ∙ o) b h k in
+      let on = over_on scratch e es scratch (step_past lo scratch e t) in
+      let rest : coverings es (lo + b) + one (free scratch b) ≡ one (free (scratch_over es lo scratch) b) =
+      over_adds es scratch (sym on.0 ∙ o) b h k in
       let z : one (in_run e.start e.length (lo + b)) ≡ 0 = ap one (part_none lo e b k t) in
-      let ends : one (free (scratch_over (e ∷ es) (window lo false) scratch) b)
-      ≡ one (free (scratch_over es (window lo false) scratch) b) = ap (λ (l : List ℕ). one (free l b)) on.1 in
+      let ends : one (free (scratch_over (e ∷ es) lo scratch) b)
+      ≡ one (free (scratch_over es lo scratch) b) = ap (λ (l : List ℕ). one (free l b)) on.1 in
       omega arith)
       (decide (touches lo e))
 
@@ -244,8 +216,8 @@ module _ (lo : ℕ) where
     pub over-passes : (es : List Entry) (scratch : List ℕ) → undamaged n (λ b. false) es ≡ true
         → min n (lo + 4096) ≤ lo + 64 * length scratch
         → ((b : ℕ) → b < 64 * length scratch → b < 4096 → coverings es (lo + b) + one (free scratch b) ≤ 1)
-        → (window_over es (window lo false) scratch).stop ≡ false
-    unfolding coverings window_over
+        → parts_stand es lo scratch ≡ true
+    unfolding coverings parts_stand
     over-passes [] scratch u room once = refl
     over-passes (e ∷ es) scratch u room once =
         ⊎_elim
@@ -255,18 +227,18 @@ module _ (lo : ℕ) where
         (λ b h k. let o : one (in_run e.start e.length (lo + b)) + coverings es (lo + b) + one (free scratch b) ≤ 1 =
         once b h k in omega arith) t in
         let next : List ℕ = marked scratch (part_from lo e - lo) (part_to lo e - part_from lo e) true in
-        let on = over_on (window lo false) scratch e es next (step_releases (window lo false) scratch e t p) in
+        let on = over_on scratch e es next (step_releases lo scratch e t p) in
         let long : length next ≡ length scratch =
         marked_length scratch (part_from lo e - lo) (part_to lo e - part_from lo e) true in
-        ap (λ (x : Window). x.stop) on.0
+        on.0
         ∙ over-passes es next (tail_undamaged n (λ b. false) e es u) (omega arith) (λ b h k.
         let m = moved lo scratch e t p b (omega arith) k in
         let o : one (in_run e.start e.length (lo + b)) + coverings es (lo + b) + one (free scratch b) ≤ 1 =
         once b (omega arith) k in
         omega arith))
         (λ (t : touches lo e ≡ false).
-        let on = over_on (window lo false) scratch e es scratch (step_past (window lo false) scratch e t) in
-        ap (λ (x : Window). x.stop) on.0
+        let on = over_on scratch e es scratch (step_past lo scratch e t) in
+        on.0
         ∙ over-passes es scratch (tail_undamaged n (λ b. false) e es u) room (λ b h k.
         let o : one (in_run e.start e.length (lo + b)) + coverings es (lo + b) + one (free scratch b) ≤ 1 =
         once b h k in

@@ -1,22 +1,21 @@
 -- What the tests of the functions here decide, one by one.
 -- Assumes nothing.
-use mathlib.Core.Path.{◌≡◌, refl, sym, ap, ap₂, ◌∙◌}
-use mathlib.Core.Bool.{Bool, true, false, not, ◌&&◌, cond}
+use mathlib.Core.Path.{◌≡◌, sym, ap}
+use mathlib.Core.Bool.{Bool, true, false, ◌&&◌, cond}
 use mathlib.Core.List.{List}
-use Prim.Native.Nat.{ℕ, ◌+◌, ◌-◌, ◌*◌, ◌/◌, ◌%◌, ◌≤◌, ◌<◌, min}
+use Prim.Native.Nat.{ℕ, ◌+◌, ◌-◌, ◌*◌, ◌/◌, ◌%◌, ◌≤◌, ◌<◌}
 use native.Mathlib.Omega.{arith}
-use lib.Dec.{eqb, leb}
-use lib.ListN.{length, replicate}
+use lib.Dec.{leb}
+use lib.ListN.{length}
 use borrow.Author.Tests.{le-leb, lt-leb, le-ltb, leb-true}
+use Rattle.std.specs.Prelude.{Option, Some, None}
+use Rattle.std.specs.Option.{SomeIff}
 use Rattle.map_blocks.specs.Blocks.{all}
-use Rattle.map_blocks.specs.Maps.{in_state, is_fresh}
-use Rattle.laws.proofs.Bools.{and_left, and_right}
+use Rattle.map_blocks.specs.Maps.{in_state}
+use Rattle.laws.proofs.Bools.{and_left}
 use Rattle.catalogue.specs.declared.Entry.{Entry}
-use Rattle.image_soundness.specs.Windows.{tally, window, keeps_rule, countable, tally_after, words_from, copied}
+use Rattle.image_soundness.specs.Windows.{keeps_rule, countable, tally_after}
 use Rattle.image_soundness.specs.Windows.{part_from, part_to, touches, taken}
-use Rattle.image_soundness.specs.Windows.{passes, window_end, first_window, window_count, passed_all, cleared_all}
-use Rattle.image_soundness.specs.declared.Tally.{Tally}
-use Rattle.image_soundness.specs.declared.Window.{Window}
 
 -- two tests, the first of which decides or leaves it to the second
 pub first_fails : (a b : Bool) → a ≡ false → false ≡ (a && b)
@@ -32,41 +31,21 @@ either_first a b e = sym (ap (λ (x : Bool). cond x true b) e)
 pub either_second : (a b : Bool) → a ≡ false → b ≡ cond a true b
 either_second a b e = sym (ap (λ (x : Bool). cond x true b) e)
 
--- an entry that is counted
-module _ (n : ℕ) (t : Tally) (e : Entry) where
-  pub counts_stopped : t.stop ≡ true → false ≡ countable n t e
-  unfolding countable
-  counts_stopped s = simp s
+-- an entry that is counted, or is not
+module _ (n left : ℕ) (e : Entry) where
+  pub rule_broken : keeps_rule n e ≡ false → None ≡ tally_after n left e
+  unfolding tally_after countable
+  rule_broken k = simp k
 
-  pub counts_broken : t.stop ≡ false → keeps_rule n e ≡ false → false ≡ countable n t e
-  unfolding countable
-  counts_broken s k = simp (s, k)
-
-  pub counts_by_length : t.stop ≡ false → keeps_rule n e ≡ true → leb e.length t.left ≡ countable n t e
-  unfolding countable
-  counts_by_length s k = simp (s, k)
-
-  pub counted_enough : countable n t e ≡ true → e.length ≤ t.left
-  unfolding countable
-  counted_enough h = leb-true e.length t.left (and_right (not t.stop && keeps_rule n e) (leb e.length t.left) h)
-
-  pub not_counted : countable n t e ≡ false → tally t.left true ≡ tally_after n t e
-  unfolding tally_after
-  not_counted h = simp h
-
-  pub is_counted : countable n t e ≡ true → tally (t.left - e.length) false ≡ tally_after n t e
-  unfolding tally_after
-  is_counted h = simp h
-
--- a window
-module _ (map : List ℕ) (w : Window) (scratch : List ℕ) where
-  pub not_copied : 64 < length scratch → scratch ≡ copied map w scratch
-  unfolding copied
-  not_copied h = simp (lt-leb (length scratch) 64 h)
-
-  pub is_copied : length scratch ≤ 64 → words_from map (w.lo / 64) (length scratch) ≡ copied map w scratch
-  unfolding copied
-  is_copied h = simp (le-leb (length scratch) 64 h)
+  pub counted_off : keeps_rule n e ≡ true → (r : Option ℕ) → SomeIff r (e.length ≤ left) (left - e.length)
+      → r ≡ tally_after n left e
+  unfolding tally_after countable
+  counted_off k r h = by r h
+    where
+      by : (r : Option ℕ) → SomeIff r (e.length ≤ left) (left - e.length)
+          → r ≡ cond (keeps_rule n e && leb e.length left) (Some (left - e.length)) None
+      by (Some x) h = simp (k, le-leb e.length left h.0) (ap Some h.1)
+      by None h = simp (k, lt-leb e.length left (omega (arith, h)))
 
 -- the start counted back from the window's last block, in 64 bits: as far as the extent is long, and 4095 more
 pub lies_apart : (lo : ℕ) (e : Entry) (back : ℕ) → back < 18446744073709551616
@@ -87,50 +66,3 @@ module _ (scratch : List ℕ) (s k : ℕ) where
   unfolding taken
   taken_fits h = leb-true (s + k) (64 * length scratch)
       (and_left (leb (s + k) (64 * length scratch)) (all (in_state scratch false) s k) h)
-
-module _ (n : ℕ) (w : Window) (scratch : List ℕ) where
-  pub passes_stopped : w.stop ≡ true → false ≡ passes n w scratch
-  unfolding passes
-  passes_stopped h = simp h
-
-  pub passes_long : w.stop ≡ false → 64 < length scratch → false ≡ passes n w scratch
-  unfolding passes
-  passes_long h l = simp (h, lt-leb (length scratch) 64 l)
-
-  pub passes_fresh : w.stop ≡ false → length scratch ≤ 64 → (k : ℕ) → k ≡ n - w.lo → is_fresh scratch k ≡ passes n w scratch
-  unfolding passes
-  passes_fresh h l k e = ap (is_fresh scratch) e ∙ simp (h, le-leb (length scratch) 64 l)
-
-  pub window_ends : (fine : Bool) (k : ℕ) → fine ≡ passes n w scratch → k ≡ min w.lo 262144
-      → window (k + 4096) (not fine) ≡ window_end n w scratch
-  unfolding window_end
-  window_ends fine k p q = ap₂ (λ (x : ℕ) (b : Bool). window (x + 4096) (not b)) q p
-
--- the first window, and how many there are
-module _ (t : Tally) where
-  pub first_stopped : t.stop ≡ true → window 0 true ≡ first_window t
-  unfolding first_window
-  first_stopped h = simp h
-
-  pub first_left : t.stop ≡ false → window 0 (not (eqb t.left 0)) ≡ first_window t
-  unfolding first_window
-  first_left h = simp h
-
--- the end
-module _ (w : Window) (scratch : List ℕ) where
-  pub all_passed_lem : not w.stop ≡ passed_all w scratch
-  unfolding passed_all
-  all_passed_lem = refl
-
-  pub all_cleared : replicate (length scratch) 0 ≡ cleared_all w scratch
-  unfolding cleared_all
-  all_cleared = refl
-
-module _ (n : ℕ) (w : Window) where
-  pub count_none : w.stop ≡ true → 0 ≡ window_count n w
-  unfolding window_count
-  count_none h = simp h
-
-  pub count_all : w.stop ≡ false → (n + 4095) / 4096 ≡ window_count n w
-  unfolding window_count
-  count_all h = simp h

@@ -2,54 +2,30 @@
 -- Assumes nothing.
 use mathlib.Core.Path.{◌≡◌, refl, sym, ap, ap₂, subst, ◌∙◌}
 use mathlib.Core.Logic.{⊎_elim}
-use mathlib.Core.Bool.{Bool, true, false, not, ◌&&◌}
+use mathlib.Core.Bool.{Bool, true, false, ◌&&◌, true≢false, not}
 use mathlib.Core.List.{List}
-use Prim.Native.Nat.{ℕ, zero, suc, ◌+◌, ◌-◌, ◌*◌, ◌/◌, ◌%◌, ◌^◌, ◌≤◌, ◌<◌}
+use Prim.Native.Nat.{ℕ, ◌+◌, ◌-◌, ◌*◌, ◌/◌, ◌%◌, ◌^◌, ◌≤◌, ◌<◌}
 use native.Mathlib.Nat.{zero-div}
 use native.Mathlib.Omega.{arith}
-use lib.Dec.{eqb, ltb}
+use lib.Dec.{eqb, leb, ltb}
+use Rattle.std.specs.Prelude.{Option, Some, None}
+use Rattle.std.specs.Option.{option_eq}
+use Rattle.map_blocks.proofs.Runs.{all_intro, all_elim}
 use lib.ListN.{length, get_or-eq_default}
-use borrow.Author.Tests.{eqb-true, eq-eqb, lt-ltb, le-ltb, not-true}
+use borrow.Author.Tests.{eqb-true, lt-ltb, le-ltb, le-leb, lt-leb}
 use Rattle.map_blocks.specs.Blocks.{free}
-use Rattle.laws.proofs.Bools.{both_ways, order, clash}
+use Rattle.laws.proofs.Bools.{and_left, and_right, and_both, both_ways, order}
 use Rattle.catalogue.specs.Entries.{held}
 use Rattle.catalogue.specs.declared.Entry.{Entry}
 use Rattle.catalogue_standings.specs.Limits.{shape_fits}
 use Rattle.catalogue_standings.proofs.Limits.{Fits, fits}
 use Rattle.image_soundness.specs.Scratch.{scratch_words}
 use Rattle.image_soundness.specs.Sound.{State, coverings, undamaged, sound}
-use Rattle.image_soundness.specs.Windows.{tally, window, tally_of, one_window, windows_of, windows_scratch, first_window}
-use Rattle.image_soundness.specs.Windows.{window_count, tested}
-use Rattle.image_soundness.specs.declared.Tally.{Tally}
-use Rattle.image_soundness.specs.declared.Window.{Window}
-use Rattle.image_soundness.proofs.Covers.{decide, one, same_one, cover_outside, still_all}
+use Rattle.image_soundness.specs.Windows.{tally_of, window_passes, windows_pass, tested}
+use Rattle.image_soundness.proofs.Covers.{one, same_one, cover_outside, still_all}
 use Rattle.image_soundness.proofs.Counted.{tally_counted, counted_tally}
-use Rattle.image_soundness.proofs.Rounds.{windows_none, windows_more, windows_length}
 use Rattle.image_soundness.proofs.WhenSound.{Tidy, sound_to, to_sound, tidy_sound, sound_tidy}
-use Rattle.image_soundness.proofs.Windowed.{Good, window_good, good_window, one_stopped, one_lo}
-
--- the first window, and how many there are
-module _ (t : Tally) where
-  first_on : t.stop ≡ false → t.left ≡ 0 → first_window t ≡ window 0 false
-  unfolding first_window
-  first_on o z = ap₂ (λ (a b : Bool). window 0 (not (not a && b))) o (eq-eqb t.left 0 z)
-
-  first_to : (first_window t).stop ≡ false → (t.stop ≡ false) × (t.left ≡ 0)
-  unfolding first_window
-  first_to h = by t.stop (eqb t.left 0) refl refl h
-    where
-      by : (a b : Bool) → t.stop ≡ a → eqb t.left 0 ≡ b → not (not a && b) ≡ false → (t.stop ≡ false) × (t.left ≡ 0)
-      by false true p q r = (p, eqb-true t.left 0 q)
-      by false false p q r = absurd (clash true refl r)
-      by true b p q r = absurd (clash true refl r)
-
-count_off : (n : ℕ) (w : Window) → w.stop ≡ true → window_count n w ≡ 0
-unfolding window_count
-count_off n w s = simp s
-
-count_on : (n : ℕ) → window_count n (window 0 false) ≡ (n + 4095) / 4096
-unfolding window_count
-count_on n = refl
+use Rattle.image_soundness.proofs.Windowed.{Good, window_good, good_window}
 
 -- no block past the end of a map is free
 free_past : (map : List ℕ) (x : ℕ) → 64 * length map ≤ x → free map x ≡ false
@@ -61,8 +37,37 @@ free_past map x h =
     zero_bit : (k : ℕ) → eqb (0 / 2 ^ k % 2) 1 ≡ false
     zero_bit k = ap (λ (x : ℕ). eqb (x % 2) 1) (zero-div (2 ^ k))
 
-module _ (s : State) (scratch : List ℕ) (fit : shape_fits s.blocks s.spare (length s.map) ≡ true)
-    (size : length scratch ≡ scratch_words (length s.map)) where
+-- every entry counted, and nothing left
+left_none : (r : Option ℕ) → option_eq eqb r (Some 0) ≡ true → r ≡ Some 0
+left_none (Some x) e = ap Some (eqb-true x 0 e)
+left_none None e = absurd (true≢false (sym e))
+
+-- the test, as it goes: a scratch that is too long, entries that do not make the blocks, and then the windows
+module _ (map : List ℕ) (es : List Entry) (m n blocks : ℕ) where
+  pub tested_long : 64 < m → false ≡ tested map es m n blocks
+  unfolding tested
+  tested_long h = simp (lt-leb m 64 h)
+
+  module _ (few : m ≤ 64) (r : Option ℕ) (is : r ≡ tally_of es n blocks) (ne : Bool)
+      (en : ne ≡ not (option_eq eqb r (Some 0))) where
+    told : tested map es m n blocks ≡ (not ne && windows_pass map es m n)
+    unfolding tested
+    told =
+        ap₂ (λ (a b : Bool). a && b && windows_pass map es m n) (le-leb m 64 few)
+        (ap (λ (r : Option ℕ). option_eq eqb r (Some 0)) (sym is) ∙ sym (ap not en ∙ not_not (option_eq eqb r (Some 0))))
+      where
+        not_not : (b : Bool) → not (not b) ≡ b
+        not_not true = refl
+        not_not false = refl
+
+    pub tested_unlike : ne ≡ true → false ≡ tested map es m n blocks
+    tested_unlike h = sym (told ∙ ap (λ (b : Bool). not b && windows_pass map es m n) h)
+
+    pub tested_windows : ne ≡ false → windows_pass map es m n ≡ tested map es m n blocks
+    tested_windows h = sym (told ∙ ap (λ (b : Bool). not b && windows_pass map es m n) h)
+
+module _ (s : State) (m : ℕ) (fit : shape_fits s.blocks s.spare (length s.map) ≡ true)
+    (size : m ≡ scratch_words (length s.map)) where
   abbrev n : ℕ
   n = s.blocks
 
@@ -72,17 +77,8 @@ module _ (s : State) (scratch : List ℕ) (fit : shape_fits s.blocks s.spare (le
   abbrev es : List Entry
   es = s.entries
 
-  abbrev m : ℕ
-  m = length scratch
-
   abbrev count : ℕ
   count = (n + 4095) / 4096
-
-  abbrev W : ℕ → Window
-  W i = windows_of map es scratch n i (window 0 false)
-
-  abbrev S : ℕ → List ℕ
-  S i = windows_scratch map es scratch n i (window 0 false)
 
   abbrev Once : ℕ → Type 0
   Once x = coverings es x + one (free map x) ≡ one (ltb x n)
@@ -93,55 +89,20 @@ module _ (s : State) (scratch : List ℕ) (fit : shape_fits s.blocks s.spare (le
   limits : Fits n s.spare (length map)
   limits = fits n s.spare (length map) fit
 
-  S-long : (i : ℕ) → length (S i) ≡ m
-  S-long i = windows_length i map es scratch n (window 0 false)
-
-  W-lo : (i : ℕ) → i ≤ 64 → (W i).lo ≡ 4096 * i
-  W-lo zero h = ap (λ (w : Window). w.lo) (windows_none map es scratch n (window 0 false))
-  W-lo (suc i) h =
-      let l : (W i).lo ≡ 4096 * i = W-lo i (omega arith) in
-      ap (λ (w : Window). w.lo) (windows_more i map es scratch n (window 0 false)) ∙ one_lo map es (S i) n (W i) ∙ omega arith
-
-  -- window i, where nothing has failed before it
-  W-is : (i : ℕ) → i ≤ 64 → (W i).stop ≡ false → W i ≡ window (4096 * i) false
-  W-is i h o = ap₂ window (W-lo i h) o
-
   aligned : (i : ℕ) → 4096 * i ≡ 64 * (4096 * i / 64)
   aligned i = omega arith
 
   abbrev Fine : ℕ → Type 0
-  Fine i = Good map es n (4096 * i) m (S i) (S-long i) few (aligned i)
+  Fine i = Good map es n (4096 * i) m few (aligned i)
 
-  next_is : (i : ℕ) → i ≤ 64 → (W i).stop ≡ false → W (suc i) ≡ one_window map es (S i) n (window (4096 * i) false)
-  next_is i h o = windows_more i map es scratch n (window 0 false) ∙ ap (one_window map es (S i) n) (W-is i h o)
-
-  -- all windows passed: each of them is as it should be
-  before_passed : (i : ℕ) → (W (suc i)).stop ≡ false → (W i).stop ≡ false
-  before_passed i o =
-      ⊎_elim
-      (λ (t : (W i).stop ≡ true).
-      absurd (clash (W (suc i)).stop
-      (ap (λ (w : Window). w.stop) (windows_more i map es scratch n (window 0 false)) ∙ one_stopped map es (S i) n (W i) t) o))
-      (λ (t : (W i).stop ≡ false). t) (decide (W i).stop)
-
-  all_fine : (k : ℕ) → k ≤ 64 → (W k).stop ≡ false → (i : ℕ) → i < k → Fine i
-  all_fine zero h o i l = absurd (omega arith)
-  all_fine (suc k) h o i l =
-      let before = before_passed k o in
-      ⊎_elim
-      (λ (u : i < k). all_fine k (omega arith) before i u)
-      (λ (u : k ≤ i).
-      let e : k ≡ i = omega arith in
-      subst Fine e (window_good map es n (4096 * k) m (S k) (S-long k) few (aligned k)
-      (ap (λ (w : Window). w.stop) (sym (next_is k (omega arith) before)) ∙ o))) (order i k)
-
+  -- each window as it should be: each block is
   fine_once : ((i : ℕ) → i < count → Fine i) → (x : ℕ) → x < 64 * length map → Once x
   fine_once good x h =
       let l = limits in
       let z : 4096 * (x / 4096) + x % 4096 ≡ x = omega arith in
       subst Once z (good (x / 4096) (omega (arith, l.words)) (x % 4096) (omega (arith, l.words)))
 
-  -- each block as it should be: all windows pass
+  -- each block as it should be: all windows are
   once_fine : undamaged n (λ b. false) es ≡ true → ((x : ℕ) → x < 64 * length map → Once x) → (i : ℕ) → Fine i
   once_fine u once i b h =
       let l = limits in
@@ -151,60 +112,57 @@ module _ (s : State) (scratch : List ℕ) (fit : shape_fits s.blocks s.spare (le
       ap₂ ◌+◌ (cover_outside n (λ b. false) es u x (omega (arith, l.covered))) (ap one (free_past map x hi))
       ∙ sym (ap one (le-ltb x n (omega (arith, l.covered))))) (order x (64 * length map))
 
-  never_fails : undamaged n (λ b. false) es ≡ true → ((i : ℕ) → Fine i) → (k : ℕ) → k ≤ count → (W k).stop ≡ false
-  never_fails u good zero h = ap (λ (w : Window). w.stop) (windows_none map es scratch n (window 0 false))
-  never_fails u good (suc k) h =
+  abbrev passes : ℕ → Bool
+  passes i = window_passes map es m n (4096 * i)
+
+  pass_fine : windows_pass map es m n ≡ true → (i : ℕ) → i < count → Fine i
+  unfolding windows_pass
+  pass_fine h i l =
+      window_good map es n (4096 * i) m few (aligned i) (all_elim passes 0 count h i (omega arith) (omega arith))
+
+  fine_pass : undamaged n (λ b. false) es ≡ true → ((i : ℕ) → Fine i) → windows_pass map es m n ≡ true
+  unfolding windows_pass
+  fine_pass u good =
       let l = limits in
-      let o = never_fails u good k (omega arith) in
-      ap (λ (w : Window). w.stop) (next_is k (omega (arith, l.limit)) o)
-      ∙ good_window map es n (4096 * k) m (S k) (S-long k) few (aligned k) u (omega (arith, l.words)) (good k)
+      all_intro passes 0 count
+      (λ i a h. good_window map es n (4096 * i) m few (aligned i) u (omega (arith, l.words)) (good i))
 
-  abbrev t : Tally
-  t = tally_of es n (tally (n - s.spare) false)
+  abbrev counted : Bool
+  counted = option_eq eqb (tally_of es n (n - s.spare)) (Some 0)
 
-  test_is : first_window t ≡ window 0 false → tested map es scratch n (tally (n - s.spare) false) ≡ not (W count).stop
+  abbrev pass : Bool
+  pass = windows_pass map es m n
+
+  tested_tidy : tested map es m n (n - s.spare) ≡ true → Tidy n (n - s.spare) map es
   unfolding tested
-  test_is e =
-      ap (λ (w : Window). not (windows_of map es scratch n (window_count n w) w).stop) e
-      ∙ ap (λ (k : ℕ). not (W k).stop) (count_on n)
-
-  test_first : tested map es scratch n (tally (n - s.spare) false) ≡ true → (first_window t).stop ≡ false
-  unfolding tested
-  test_first h =
-      ⊎_elim
-      (λ (e : (first_window t).stop ≡ true).
-      absurd (clash (tested map es scratch n (tally (n - s.spare) false)) h
-      (ap (λ (k : ℕ). not (windows_of map es scratch n k (first_window t)).stop) (count_off n (first_window t) e)
-      ∙ ap (λ (w : Window). not w.stop) (windows_none map es scratch n (first_window t)) ∙ ap not e)))
-      (λ (e : (first_window t).stop ≡ false). e) (decide (first_window t).stop)
-
-  tested_tidy : tested map es scratch n (tally (n - s.spare) false) ≡ true → Tidy n (n - s.spare) map es
   tested_tidy h =
       let l = limits in
-      let f = first_to t (test_first h) in
-      let c = tally_counted n (n - s.spare) es f.0 in
-      let o : (W count).stop ≡ false = not-true (W count).stop (sym (test_is (first_on t f.0 f.1)) ∙ h) in
-      let once = fine_once (all_fine count (omega (arith, l.limit)) o) in
+      let some = left_none (tally_of es n (n - s.spare)) (and_right (leb m 64) counted
+      (and_left (leb m 64 && counted) pass h)) in
+      let c = tally_counted n (n - s.spare) es 0 some in
+      let once = fine_once (pass_fine (and_right (leb m 64 && counted) pass h)) in
       record {
         whole = still_all n (λ b. false) (free map) es c.alone (λ b u k z.
             let e : coverings es b + one (free map b) ≡ 1 = once b (omega (arith, l.covered)) ∙ ap one (lt-ltb b n u) in
             same_one (free map b) false (omega arith));
         once = once;
-        sum = omega (arith, c.enough, c.rest, f.1);
+        sum = omega (arith, c.enough, c.rest_is);
       }
 
-  tidy_tested : Tidy n (n - s.spare) map es → tested map es scratch n (tally (n - s.spare) false) ≡ true
+  tidy_tested : Tidy n (n - s.spare) map es → tested map es m n (n - s.spare) ≡ true
+  unfolding tested
   tidy_tested p =
       let u : undamaged n (λ b. false) es ≡ true = still_all n (free map) (λ b. false) es p.whole (λ b l c z. refl) in
-      let e : t ≡ tally (n - s.spare - held es) false = counted_tally n (n - s.spare) es u (omega (arith, p.sum)) in
       let z : n - s.spare - held es ≡ 0 = omega (arith, p.sum) in
-      let first = first_on t (ap (λ (x : Tally). x.stop) e) (ap (λ (x : Tally). x.left) e ∙ z) in
-      test_is first ∙ ap not (never_fails u (once_fine u p.once) count (omega arith))
+      let some : tally_of es n (n - s.spare) ≡ Some 0 = counted_tally n (n - s.spare) es u (omega (arith, p.sum)) ∙ ap Some z in
+      and_both (leb m 64 && counted) pass
+      (and_both (leb m 64) counted (le-leb m 64 few) (ap (λ (r : Option ℕ). option_eq eqb r (Some 0)) some))
+      (fine_pass u (once_fine u p.once))
 
   -- the test is soundness
-  pub tested_sound : tested map es scratch n (tally (n - s.spare) false) ≡ sound s
+  pub tested_sound : tested map es m n (n - s.spare) ≡ sound s
   tested_sound =
       let l = limits in
-      both_ways (tested map es scratch n (tally (n - s.spare) false)) (sound s)
+      both_ways (tested map es m n (n - s.spare)) (sound s)
       (λ h. to_sound s (tidy_sound s l.covered l.spare (tested_tidy h)))
       (λ h. tidy_tested (sound_tidy s l.covered l.spare (sound_to s h)))

@@ -9,10 +9,7 @@ use catalogue::{ABSENT, COMPLETE, Entry, OPEN, PAUSED};
 fn no_extent(entry: Entry) -> bool
     ensures { result ≡ (eqb entry.start 0 && eqb entry.length 0) }
 {
-    if entry.start == 0 {
-        return entry.length == 0;
-    }
-    false
+    entry.start == 0 && entry.length == 0
 }
 
 // At least one block, and none from n on.
@@ -21,10 +18,7 @@ fn extent_inside(n: u32, entry: Entry) -> bool
 {
     let start = entry.start as u64;
     let blocks = entry.length as u64;
-    if blocks < 1 {
-        return false;
-    }
-    start + blocks <= n as u64
+    blocks >= 1 && start + blocks <= n as u64
 }
 
 // A pause has no extent, or one inside n.
@@ -32,10 +26,7 @@ fn pause_keeps(n: u32, entry: Entry) -> bool
     ensures { result ≡ cond (eqb entry.start 0 && eqb entry.length 0) true
         (leb 1 entry.length && leb (entry.start + entry.length) n) }
 {
-    if no_extent(entry) {
-        return true;
-    }
-    extent_inside(n, entry)
+    no_extent(entry) || extent_inside(n, entry)
 }
 
 // Whether an entry keeps the rule of its mark: Absent has no extent, Open and Complete have one inside n, and Paused may have
@@ -43,18 +34,11 @@ fn pause_keeps(n: u32, entry: Entry) -> bool
 pub fn keeps_rule(n: u32, entry: Entry) -> bool
     ensures { result ≡ keeps_rule n entry }
 {
-    let mark = entry.mark;
-    if mark == ABSENT {
-        return no_extent(entry);
+    match entry.mark {
+        ABSENT => no_extent(entry),
+        PAUSED => pause_keeps(n, entry),
+        OPEN => extent_inside(n, entry),
+        COMPLETE => extent_inside(n, entry),
+        _ => false,
     }
-    if mark == PAUSED {
-        return pause_keeps(n, entry);
-    }
-    if mark == OPEN {
-        return extent_inside(n, entry);
-    }
-    if mark == COMPLETE {
-        return extent_inside(n, entry);
-    }
-    false
 }

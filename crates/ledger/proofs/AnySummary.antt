@@ -1,6 +1,7 @@
 -- The calls with a summary that need not be the map's own: of the wrong length (`wrong_length`), and of the right one
 -- (`any_summary`, `any-reserve`).
 -- Assumes nothing.
+use Rattle.std.specs.Prelude.{Option, Some, None}
 use lib.Dec.{ltb}
 use Prim.Native.Nat.{ℕ, ◌+◌, ◌-◌, ◌≤◌, ◌<◌}
 use mathlib.Core.Path.{◌≡◌, refl, sym, ap, subst, ◌∙◌}
@@ -10,8 +11,6 @@ use mathlib.Core.List.{List, []}
 use native.Mathlib.Omega.{arith}
 use lib.ListN.{length, set, get_or}
 use borrow.Author.Tests.{ltb-true, ltb-false}
-use Rattle.map_blocks.specs.declared.Found.{Found}
-use Rattle.map_blocks.specs.declared.Found.TheVariants.{At, Nothing}
 use Rattle.map_blocks.specs.Blocks as map-blocks
 use Rattle.map_blocks.specs.Maps.{marked}
 use Rattle.map_blocks.proofs.Fits.{fit_is}
@@ -227,16 +226,16 @@ module _ (s : Kept) (b : Beside) (limits : List ℕ) (sheet : ℕ) (long : Long 
     by_search : (v : Verdict) → first_of (reserving.searching x k p) ≡ v → reserve_verdict x k p ≡ v
     by_search v h = reserving.searched x k p v (unsearched_x ∙ comes) h
 
-    abbrev found : Found
+    abbrev found : Option ℕ
     found = found_by true b.summary s.map g k
 
     -- a start that was found
-    module _ (t : ℕ) (f : found ≡ At t) where
+    module _ (t : ℕ) (f : found ≡ Some t) where
       w : reserving.Passed plainly k p
       w = reserving.passed plainly k p comes
 
       pub fits : fit_within (map-blocks.free s.map) g k t ≡ true
-      fits = subst (λ (o : Found). fit_within (map-blocks.free s.map) g k (start_at o) ≡ true) f
+      fits = subst (λ (o : Option ℕ). fit_within (map-blocks.free s.map) g k (start_at o) ≡ true) f
           (found_fit true b.summary s.map g k (omega (arith, (given plainly k w.opens).some)) (ap none f))
 
       plain-there : map-blocks.fit (map-blocks.free s.map) 0 n 1 k t ≡ true
@@ -254,7 +253,7 @@ module _ (s : Kept) (b : Beside) (limits : List ℕ) (sheet : ℕ) (long : Long 
           ∙ runs.too_few 17 (map-blocks.free s.map) n s.shape.free t k plain-there more
 
     -- and is not too much
-    module _ (t : ℕ) (f : found ≡ At t) (few : k ≤ s.shape.free) where
+    module _ (t : ℕ) (f : found ≡ Some t) (few : k ≤ s.shape.free) where
       reserved : reserve_verdict x k p ≡ accepted
       reserved = by_search accepted (reserving.passes x k p t f few)
 
@@ -293,22 +292,22 @@ module _ (s : Kept) (b : Beside) (limits : List ℕ) (sheet : ℕ) (long : Long 
     -- no fit is found; or one for which the free count is too small; or one that is granted
     pub data Ruled : Type 0 where
       nowhere : reserves false true ≡ refuses 10 → Ruled
-      short_of : (t : ℕ) → found ≡ At t → s.shape.free < k → reserves false true ≡ refuses 4 → Ruled
-      taken : (t : ℕ) → found ≡ At t → k ≤ s.shape.free → Ruled
+      short_of : (t : ℕ) → found ≡ Some t → s.shape.free < k → reserves false true ≡ refuses 4 → Ruled
+      taken : (t : ℕ) → found ≡ Some t → k ≤ s.shape.free → Ruled
 
     pub ruled : Ruled
     ruled = go found refl
       where
-        by_count : (t : ℕ) → found ≡ At t → (few : Bool) → ltb s.shape.free k ≡ few → Ruled
+        by_count : (t : ℕ) → found ≡ Some t → (few : Bool) → ltb s.shape.free k ≡ few → Ruled
         by_count t f true few =
             short_of t f (ltb-true _ _ few) (reserve_refuses false true s b sheet 4 limits k p
             (by_search (refused 4) (reserving.too_few x k p t f (ltb-true _ _ few))))
         by_count t f false few = taken t f (ltb-false _ _ few)
 
-        go : (o : Found) → found ≡ o → Ruled
-        go Nothing f = nowhere (reserve_refuses false true s b sheet 10 limits k p
+        go : (o : Option ℕ) → found ≡ o → Ruled
+        go None f = nowhere (reserve_refuses false true s b sheet 10 limits k p
             (by_search (refused 10) (reserving.no_fit x k p f)))
-        go (At t) f = by_count t f (ltb s.shape.free k) refl
+        go (Some t) f = by_count t f (ltb s.shape.free k) refl
 
     pub short : get_or b.summary 2 0 < k → reserves false true ≡ refuses 10
     short l =

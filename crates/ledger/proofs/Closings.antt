@@ -2,6 +2,7 @@
 -- search, by the map or by the map's own summary, is answered 10 exactly when it wants more blocks than are free (document 02
 -- (l)).
 -- Assumes nothing.
+use Rattle.std.specs.Prelude.{Some, None}
 use Prim.Native.Nat.{ℕ, ◌*◌, ◌≤◌, ◌<◌}
 use mathlib.Core.Path.{◌≡◌, refl, sym, ap, subst, ◌∙◌}
 use mathlib.Core.Logic.{◌↔◌, ◌⊎◌, inl, inr}
@@ -12,7 +13,6 @@ use lib.Dec.{leb, eqb}
 use lib.ListN.{length}
 use borrow.Author.Tests.{leb-true, leb-false, eqb-false}
 use Rattle.map_blocks.specs.Blocks.{free, least_fit}
-use Rattle.map_blocks.specs.declared.Found.TheVariants.{At, Nothing}
 use Rattle.catalogue.specs.Entries.{held}
 use Rattle.catalogue_standings.specs.Answers.{number_of}
 use Rattle.catalogue_standings.specs.Rows.{row, Verdict, accepted, refused, first_of, before, row_number}
@@ -55,7 +55,7 @@ use Rattle.ledger.proofs.WideLimits.{told_number}
 -- what a search then finds: the first block behind the extents, unless more blocks are wanted than are free
 abbrev FitsBehind : ℕ → Kept → Type 0
 FitsBehind h t = (k : ℕ) → 1 ≤ k
-    → least_fit (free t.map) 0 t.shape.blocks 1 k ≡ cond (leb k t.shape.free) (At h) Nothing
+    → least_fit (free t.map) 0 t.shape.blocks 1 k ≡ cond (leb k t.shape.free) (Some h) None
 
 -- ---- a reserve from such a state
 
@@ -79,12 +79,12 @@ module _ (h : ℕ) (t : Kept) (behind : FitsBehind h t) (away : Bool) (b : Besid
     by_count : (few : Bool) → leb k t.shape.free ≡ few
         → ((told_of (end_on away false t b sheet (reserve limits k plain))).number ≡ 10) ↔ (t.shape.free < k)
     by_count true e =
-        let found : reserving.found q k plain ≡ At h = behind k some ∙ ap (λ (f : Bool). cond f (At h) Nothing) e in
+        let found : reserving.found q k plain ≡ Some h = behind k some ∙ ap (λ (f : Bool). cond f (Some h) None) e in
         let few : k ≤ t.shape.free = leb-true k t.shape.free e in
         let zero = told_so accepted (reserving.searched q k plain accepted comes (reserving.passes q k plain h found few)) in
         (λ ten. absurd (omega (arith, sym ten ∙ zero)), λ more. absurd (omega (arith, more, few)))
     by_count false e =
-        let found : reserving.found q k plain ≡ Nothing = behind k some ∙ ap (λ (f : Bool). cond f (At h) Nothing) e in
+        let found : reserving.found q k plain ≡ None = behind k some ∙ ap (λ (f : Bool). cond f (Some h) None) e in
         let ten = told_so (refused 10) (reserving.searched q k plain (refused 10) comes (reserving.no_fit q k plain found)) in
         (λ x. leb-false k t.shape.free e, λ more. ten)
 
@@ -113,13 +113,13 @@ module _ (away guided : Bool) (s : Kept) (b : Beside) where
     where
       by : (v : Verdict) → verdict_by away guided guide s b.scratch ≡ v
           → least_fit (free e.map) 0 e.outcome.shape.blocks 1 k
-          ≡ cond (leb k e.outcome.shape.free) (At (held s.entries)) Nothing
+          ≡ cond (leb k e.outcome.shape.free) (Some (held s.entries)) None
       by accepted v =
           let a = close_accepted away guided guide s b.scratch v in
           (λ x. least_fit (free (a.words x)) 0 (a.outcome x).shape.blocks 1 k)
           ∙ (afterwards away (saved_state s.shape s.map s.entries) (guide_tested guided (length s.map) (length guide))
           s.card b.scratch v).fits k some
-          ∙ (λ x. cond (leb k (sym a.outcome x).shape.free) (At (held s.entries)) Nothing)
+          ∙ (λ x. cond (leb k (sym a.outcome x).shape.free) (Some (held s.entries)) None)
       by (refused number) v =
           let o = (close_refused away guided guide s b.scratch number v).outcome in
           let z : false ≡ true = ap (λ x. is_done x.answer) (sym o) ∙ ap is_done done-so in

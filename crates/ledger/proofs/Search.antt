@@ -1,6 +1,7 @@
 -- A search for the least start that passes a test: a call that comes to it is answered its number exactly when no start
 -- passes, and otherwise given the least. And a call that asks for one start.
 -- Assumes nothing.
+use Rattle.std.specs.Prelude.{Option, Some, None}
 use Prim.Native.Nat.{ℕ, ◌≤◌, ◌<◌}
 use mathlib.Core.Path.{◌≡◌, refl, sym, subst}
 use mathlib.Core.Logic.{◌⊎◌, inl, inr}
@@ -8,8 +9,6 @@ use mathlib.Core.Bool.{Bool, true, false, not, ◌&&◌, cond}
 use mathlib.Core.List.{[], ◌∷◌}
 use native.Mathlib.Omega.{arith}
 use Rattle.map_blocks.specs.Blocks.{least}
-use Rattle.map_blocks.specs.declared.Found.{Found}
-use Rattle.map_blocks.specs.declared.Found.TheVariants.{At, Nothing}
 use lib.Dec.{eqb}
 use borrow.Author.Tests.{eqb-true, eq-eqb}
 use Rattle.laws.proofs.Bools.{and_left, and_right, and_both, not_true, order, clash}
@@ -23,10 +22,10 @@ use Rattle.ledger.specs.Claim.{Searched}
 module _ (number : ℕ) (some : 0 < number) (passes : ℕ → Bool) (beside : ℕ → ℕ) (n : ℕ)
     (beyond : (s : ℕ) → n ≤ s → passes s ≡ false) where
   -- what is told, by what the search found
-  abbrev pub verdict_by : Found → Verdict
+  abbrev pub verdict_by : Option ℕ → Verdict
   verdict_by o = cond (none o) (refused number) accepted
 
-  abbrev pub tells_by : Verdict → Found → ℕ → Told
+  abbrev pub tells_by : Verdict → Option ℕ → ℕ → Told
   tells_by v o p = settle v (done (start_at o ∷ beside (start_at o) ∷ []) []) (refused_with [] p)
 
   pub searched : (v : Verdict) (p : ℕ) → v ≡ verdict_by (least passes 0 n)
@@ -34,7 +33,7 @@ module _ (number : ℕ) (some : 0 < number) (passes : ℕ → Bool) (beside : �
   searched v p is = subst (λ (w : Verdict). Searched number passes beside (tells_by w (least passes 0 n) p)) (sym is)
       (go (least passes 0 n) refl)
     where
-      found : (s : ℕ) → least passes 0 n ≡ At s → Searched number passes beside (tells_by accepted (At s) p)
+      found : (s : ℕ) → least passes 0 n ≡ Some s → Searched number passes beside (tells_by accepted (Some s) p)
       found s e =
           let fits : passes s ≡ true = (least_passes passes 0 n s e).test in
           record {
@@ -46,7 +45,7 @@ module _ (number : ℕ) (some : 0 < number) (passes : ℕ → Bool) (beside : �
           at_most m fm (inl h) = absurd (clash (passes m) fm (least_below passes 0 n s e m (omega arith) h))
           at_most m fm (inr h) = h
 
-      nothing : least passes 0 n ≡ Nothing → Searched number passes beside (tells_by (refused number) Nothing p)
+      nothing : least passes 0 n ≡ None → Searched number passes beside (tells_by (refused number) None p)
       nothing e = record {
         exactly = (λ h s. no_fit s (order s n), λ h. refl);
         otherwise = λ h. absurd (h refl);
@@ -56,10 +55,10 @@ module _ (number : ℕ) (some : 0 < number) (passes : ℕ → Bool) (beside : �
           no_fit s (inl h) = none_passes passes 0 n e s (omega arith) (omega arith)
           no_fit s (inr h) = beyond s h
 
-      go : (o : Found) → least passes 0 n ≡ o
+      go : (o : Option ℕ) → least passes 0 n ≡ o
           → Searched number passes beside (tells_by (verdict_by (least passes 0 n)) (least passes 0 n) p)
-      go (At s) e = subst (λ (o : Found). Searched number passes beside (tells_by (verdict_by o) o p)) (sym e) (found s e)
-      go Nothing e = subst (λ (o : Found). Searched number passes beside (tells_by (verdict_by o) o p)) (sym e) (nothing e)
+      go (Some s) e = subst (λ (o : Option ℕ). Searched number passes beside (tells_by (verdict_by o) o p)) (sym e) (found s e)
+      go None e = subst (λ (o : Option ℕ). Searched number passes beside (tells_by (verdict_by o) o p)) (sym e) (nothing e)
 
 -- the one start that is asked for, which passes or not
 module _ (number : ℕ) (some : 0 < number) (p : ℕ → Bool) (beside : ℕ → ℕ) (start : ℕ) where

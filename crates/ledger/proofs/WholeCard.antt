@@ -2,6 +2,7 @@
 -- exactly when no fit exists, and otherwise given the least and the space behind it (`search-lowest`); a survey answers the
 -- three counts (`survey-counts`). Neither changes anything.
 -- Assumes nothing.
+use Rattle.std.specs.Prelude.{Option, Some, None}
 use Prim.Native.Nat.{ℕ, ◌≤◌}
 use mathlib.Core.Path.{◌≡◌, refl, sym, ap, subst, ◌∙◌}
 use mathlib.Core.Bool.{Bool, true, false, not}
@@ -12,8 +13,6 @@ use lib.ListN.{length}
 use borrow.Author.Tests.{ne_eqb}
 use Rattle.map_blocks.specs.Blocks as map-blocks
 use Rattle.map_blocks.specs.Blocks.{least, fit, least_fit, space}
-use Rattle.map_blocks.specs.declared.Found.{Found}
-use Rattle.map_blocks.specs.declared.Found.TheVariants.{At, Nothing}
 use Rattle.laws.proofs.Bools.{not_true}
 use Rattle.survey.specs.Survey.{counts_of}
 use Rattle.catalogue_standings.specs.Limits.{shape_fits}
@@ -45,7 +44,7 @@ module _ (m : Manner) (s : Kept) (b : Beside) (fits : shape_fits s.shape.blocks 
     behind start = space free start n
 
     -- what a search answers, by its rows 21, 1 and 3 and by what it found
-    abbrev answerBy : Bool → Bool → Bool → Found → Answer
+    abbrev answerBy : Bool → Bool → Bool → Option ℕ → Answer
     answerBy away misfit empty o = settle (first_of (row 21 away ∷ row 1 misfit ∷ row 3 empty ∷ row 10 (none o) ∷ []))
         (start_with_space free n (start_at o)) Refused
 
@@ -60,22 +59,22 @@ module _ (m : Manner) (s : Kept) (b : Beside) (fits : shape_fits s.shape.blocks 
       beyond start le = not_true _ (λ q. omega (arith, (fit_is free 0 n 1 k start q).high))
 
       -- what is told, and the verdict, by what was found
-      abbrev tells : Verdict → Found → ℕ → Told
+      abbrev tells : Verdict → Option ℕ → ℕ → Told
       tells = tells_by 10 (omega arith) fits_at behind n beyond
 
-      abbrev ruling : Found → Verdict
+      abbrev ruling : Option ℕ → Verdict
       ruling = verdict_by 10 (omega arith) fits_at behind n beyond
 
-      by-found : (o : Found) → toldFor (answerBy false false false o) ≡ tells (ruling o) o 0
+      by-found : (o : Option ℕ) → toldFor (answerBy false false false o) ≡ tells (ruling o) o 0
       unfolding first_of
-      by-found (At start) = refl
-      by-found Nothing = refl
+      by-found (Some start) = refl
+      by-found None = refl
 
       said : may m.role roles.search ≡ true
           → told_of (ends m s b (search k)) ≡ tells (ruling (least fits_at 0 n)) (least fits_at 0 n) 0
       unfolding search_answer least_fit
       said may-search =
-          let found : Found = least fits_at 0 n in
+          let found : Option ℕ = least fits_at 0 n in
           ap (λ (t : Bool). toldFor (answerBy (not t) (not (shape_fits n s.shape.free (length s.map)))
           (eqb k 0) found)) may-search
           ∙ ap (λ (t : Bool). toldFor (answerBy false (not t) (eqb k 0) found)) fits

@@ -1,5 +1,5 @@
 -- The calls with a summary beside the map (document 02, request j): what is claimed of them, beside the calls by the map alone.
--- That it holds is proved in proofs/Own.antt, of the map's own summary, and in proofs/Any.antt, of any.
+-- That it holds is proved in proofs/OwnSummary.antt, of the map's own summary, and in proofs/AnySummary.antt, of any.
 -- Assumes nothing.
 use Rattle.std.specs.Prelude.{ℕ, ◌+◌, ◌≤◌, ◌<◌, ◌≡◌, ◌⊎◌, true, false, List, [], get_or}
 use Rattle.map_blocks.specs.Blocks.{free}

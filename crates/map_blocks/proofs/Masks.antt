@@ -1,8 +1,8 @@
 -- Masks: the bits of a word that a run of blocks covers, and the test that a word has them all.
 -- Assumes nothing.
-use mathlib.Core.Path.{◌≡◌, refl, sym, ap₂, ◌∙◌}
+use mathlib.Core.Path.{◌≡◌, refl, sym, ◌∙◌}
 use mathlib.Core.Bool.{Bool, true, false, not, ◌&&◌, ◌||◌}
-use Prim.Native.Nat.{ℕ, ◌+◌, ◌-◌, ◌≤◌, ◌<◌, min}
+use Prim.Native.Nat.{ℕ, ◌-◌, ◌≤◌, ◌<◌}
 use native.Mathlib.Omega.{arith}
 use lib.Dec.{leb, ltb}
 use borrow.Author.Tests.{lt-ltb, le-leb, ltb-true, leb-true}
@@ -10,18 +10,6 @@ use Rattle.map_blocks.specs.Blocks.{all}
 use Rattle.map_blocks.specs.Words.{bit, has_all, Mask}
 use Rattle.laws.proofs.Bools.{both_ways, and_left, and_right, and_both}
 use Rattle.map_blocks.proofs.Runs.{all_intro, all_elim}
-
--- the part of the blocks lo to hi - 1 that lies in the word whose first block is `base`
-pub in_word : (lo hi base j : ℕ) → j < 64 → base < hi
-    → (leb (lo - base) j && ltb j (min (hi - base) 64)) ≡ (leb lo (base + j) && ltb (base + j) hi)
-in_word lo hi base j l h =
-    ap₂ ◌&&◌
-    (both_ways (leb (lo - base) j) (leb lo (base + j))
-    (λ e. let u : lo - base ≤ j = leb-true (lo - base) j e in le-leb lo (base + j) (omega arith))
-    (λ e. let u : lo ≤ base + j = leb-true lo (base + j) e in le-leb (lo - base) j (omega arith)))
-    (both_ways (ltb j (min (hi - base) 64)) (ltb (base + j) hi)
-    (λ e. let u : j < min (hi - base) 64 = ltb-true j (min (hi - base) 64) e in lt-ltb (base + j) hi (omega arith))
-    (λ e. let u : base + j < hi = ltb-true (base + j) hi e in lt-ltb j (min (hi - base) 64) (omega arith)))
 
 -- the test at one bit: it passes where the mask has a 0 or the word a 1
 module _ where

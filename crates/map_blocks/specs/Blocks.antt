@@ -1,8 +1,7 @@
 -- The blocks of a map, its fits and the least of them (document 01, "Map and search").
 -- Assumes nothing.
+use Rattle.std.specs.Prelude.{Option, Some, None}
 use Rattle.std.specs.Prelude.{ℕ, zero, suc, ◌+◌, ◌-◌, ◌/◌, ◌%◌, ◌^◌, Bool, true, ◌&&◌, cond, List, eqb, leb, get_or}
-use Rattle.map_blocks.specs.declared.Found.{Found}
-use Rattle.map_blocks.specs.declared.Found.TheVariants.{At, Nothing}
 
 -- Block b of a map is free: bit 63 - (b mod 64) of word b div 64 is 1, bit 63 being the most significant.
 unfoldable pub free : List ℕ → ℕ → Bool
@@ -25,19 +24,19 @@ unfolding all on_step
 fit f from before step k s = leb from s && leb (s + k) before && all f s k && on_step step s
 
 -- The least of the m numbers from s on that passes the test p.
-unfoldable pub least : (ℕ → Bool) → ℕ → ℕ → Found
-least p s zero = Nothing
-least p s (suc m) = cond (p s) (At s) (least p (suc s) m)
+unfoldable pub least : (ℕ → Bool) → ℕ → ℕ → Option ℕ
+least p s zero = None
+least p s (suc m) = cond (p s) (Some s) (least p (suc s) m)
 
 -- The least fit for k, where k ≥ 1: no fit starts at `before` or after it.
-unfoldable pub least_fit : (ℕ → Bool) → ℕ → ℕ → ℕ → ℕ → Found
+unfoldable pub least_fit : (ℕ → Bool) → ℕ → ℕ → ℕ → ℕ → Option ℕ
 unfolding least fit
 least_fit f from before step k = least (fit f from before step k) 0 before
 
 -- The first answer, or the second where it has none.
-abbrev pub or_else : Found → Found → Found
-or_else (At s) other = At s
-or_else Nothing other = other
+abbrev pub or_else : Option ℕ → Option ℕ → Option ℕ
+or_else (Some s) other = Some s
+or_else None other = other
 
 -- How many of the m numbers from s on pass a test f before the first that does not.
 unfoldable pub run : (ℕ → Bool) → ℕ → ℕ → ℕ

@@ -6,7 +6,7 @@ ghost use Rattle.map_blocks.specs.Words.{bit};
 
 use super::word::{has_all, part, set_bits};
 
-// The two states of a block, as its bit has them.
+// The two states of a block, as its bit has them: a bool, and no enum, since a block's state is its bit, as in the clauses.
 pub const FREE: bool = true;
 
 pub const TAKEN: bool = false;
@@ -17,11 +17,9 @@ pub fn mark(map: &mut [u64], start: u32, k: u32, to: bool)
     ensures { map.new ≡ marked map.old start k to }
 {
     let end = start + k;
-    let mut base = start / 64 * 64;
-    while base < end {
-        let i = (base / 64) as usize;
-        map[i] = set_bits(map[i], part(start, end, base), to);
-        base += 64;
+    for i in start / 64..end.div_ceil(64) {
+        let at = i as usize;
+        map[at] = set_bits(map[at], part(start, end, i * 64), to);
     }
 }
 
@@ -38,13 +36,10 @@ pub fn all_marked(map: &[u64], start: u32, k: u32, state: bool) -> bool
     ensures { result ≡ all (in_state map.now state) start k }
 {
     let end = start + k;
-    let mut base = start / 64 * 64;
-    while base < end {
-        let i = (base / 64) as usize;
-        if !has_all(in_state(map[i], state), part(start, end, base)) {
+    for i in start / 64..end.div_ceil(64) {
+        if !has_all(in_state(map[i as usize], state), part(start, end, i * 64)) {
             return false;
         }
-        base += 64;
     }
     true
 }
@@ -65,10 +60,8 @@ pub fn fresh(map: &mut [u64], n: u32)
     requires { length map.old ≤ 4096 }
     ensures { map.new ≡ fresh_map n (length map.old) }
 {
-    let mut i: usize = 0;
-    while i < map.len() {
-        map[i] = fresh_word((i as u32) * 64, n);
-        i += 1;
+    for (i, word) in map.iter_mut().enumerate() {
+        *word = fresh_word((i as u32) * 64, n);
     }
 }
 
@@ -77,12 +70,10 @@ pub fn is_fresh(map: &[u64], n: u32) -> bool
     requires { length map.now ≤ 4096 }
     ensures { result ≡ is_fresh map.now n }
 {
-    let mut i: usize = 0;
-    while i < map.len() {
-        if map[i] != fresh_word((i as u32) * 64, n) {
+    for (i, word) in map.iter().enumerate() {
+        if *word != fresh_word((i as u32) * 64, n) {
             return false;
         }
-        i += 1;
     }
     true
 }

@@ -1,23 +1,9 @@
 // Operations on one word of the map. Bits are counted from the most significant, as blocks are.
-ghost use Rattle.std.specs.Prelude.{◌≡◌, cond, ◌&&◌, ℕ, ◌+◌, ◌-◌, ◌<◌, ◌≤◌, min, leb, ltb};
+ghost use Rattle.std.specs.Prelude.{◌≡◌, cond, ◌&&◌, ℕ, ◌+◌, ◌<◌, ◌≤◌, leb, ltb};
 ghost use Rattle.map_blocks.specs.Words;
 ghost use Rattle.map_blocks.specs.Words.{bit, Mask};
 
 pub const ONES: u64 = 0xffff_ffff_ffff_ffff;
-
-// The smaller of two.
-pub fn smaller(a: u32, b: u32) -> u32
-    ensures { result ≡ min a b }
-{
-    if a < b { a } else { b }
-}
-
-// How far a is above b: 0 where it is not.
-pub fn beyond(a: u32, b: u32) -> u32
-    ensures { result ≡ a - b }
-{
-    if b < a { a - b } else { 0 }
-}
 
 // The word whose bits lo to hi - 1 are 1.
 pub fn span(lo: u32, hi: u32) -> u64
@@ -39,7 +25,7 @@ pub fn part(lo: u32, hi: u32, base: u32) -> u64
     requires { (lo < base + 64) × (base < hi) × (base ≤ 262144) }
     ensures { (j : ℕ) → j < 64 → bit result j ≡ (leb lo (base + j) && ltb (base + j) hi) }
 {
-    span(beyond(lo, base), smaller(hi - base, 64))
+    span(lo.saturating_sub(base), (hi - base).min(64))
 }
 
 // w with the bits that m has set to 1 or to 0.

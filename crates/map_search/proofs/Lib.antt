@@ -1,3 +1,4 @@
 -- Laws that the proofs of several functions cite.
+pub mod Ored
 pub mod Window
 pub mod Words

@@ -1,6 +1,7 @@
 -- A search within a window: what it knows at the window's ends, the words inside it, and that the run it finds is the least
 -- fit.
 -- Assumes nothing.
+use Rattle.std.specs.Prelude.{Option, Some, None}
 use mathlib.Core.Path.{◌≡◌, refl, sym, ap, ap₂, ◌∙◌}
 use mathlib.Core.Logic.{⊎_elim}
 use mathlib.Core.Bool.{Bool, true, false, ◌&&◌}
@@ -11,8 +12,6 @@ use lib.Dec.{leb, ltb}
 use borrow.Author.Tests.{lt-ltb, le-ltb, ltb-true, le-leb, lt-leb, leb-true}
 use Rattle.map_blocks.specs.Blocks.{free, all, fit, least_fit}
 use Rattle.map_blocks.specs.Words.{in_window}
-use Rattle.map_blocks.specs.declared.Found.{Found}
-use Rattle.map_blocks.specs.declared.Found.TheVariants.{At, Nothing}
 use Rattle.map_search_word.specs.Scan.{Carried}
 use Rattle.map_search.specs.Search.{HasBits, Finds}
 use Rattle.laws.proofs.Bools.{and_left, and_right, and_both, clash, order}
@@ -79,15 +78,15 @@ module _ (g : ℕ → Bool) (from before : ℕ) where
       no_fit g from before step k t (λ h. clash (all (in_window g from before) t k) (fit_run step k t h) e)
 
   -- what a search has found is the least fit
-  pub told_least : (k : ℕ) → 0 < k → (r : Found) → Finds (in_window g from before) k r → r ≡ least_fit g from before 1 k
+  pub told_least : (k : ℕ) → 0 < k → (r : Option ℕ) → Finds (in_window g from before) k r → r ≡ least_fit g from before 1 k
   unfolding least_fit
-  told_least k h (At s) told =
+  told_least k h (Some s) told =
       let run = run_fit k s h told.fits in
       let u : s + k ≤ before = run.1 in
       sym (least_at (fit g from before 1 k) 0 before s (omega arith) (omega arith)
       (is_fit g from before 1 k s (record { low = run.0; high = u; free = run.2; placed = on_one s }))
       (λ t a b. no_run 1 k t (told.none t b)))
-  told_least k h Nothing told = sym (least_none (fit g from before 1 k) 0 before (λ t a b. no_run 1 k t (told t)))
+  told_least k h None told = sym (least_none (fit g from before 1 k) 0 before (λ t a b. no_run 1 k t (told t)))
 
 -- the words that lie in the window whole
 pub whole_words : (map : List ℕ) (from before first stop : ℕ) → from ≤ first * 64 → stop * 64 ≤ before

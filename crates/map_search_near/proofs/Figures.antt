@@ -1,8 +1,9 @@
 -- A search within three figures: that the run it finds is the least fit, and which starts are passed over.
 -- Assumes nothing.
+use Rattle.std.specs.Prelude.{Some, None}
 use mathlib.Core.Path.{◌≡◌, sym, ap, ◌∙◌}
 use mathlib.Core.Logic.{⊎_elim}
-use mathlib.Core.Bool.{Bool, true, false, cond}
+use mathlib.Core.Bool.{Bool, true, false}
 use mathlib.Core.List.{List}
 use Prim.Native.Nat.{ℕ, ◌+◌, ◌-◌, ◌*◌, ◌/◌, ◌%◌, ◌≤◌, ◌<◌, min}
 use native.Mathlib.Nat.{mod-eq_of_lt}
@@ -11,30 +12,20 @@ use lib.Dec.{eqb}
 use lib.ListN.{get_or}
 use Rattle.map_blocks.specs.Blocks.{free, all, on_step, fit, least_fit}
 use Rattle.map_blocks.specs.Words.{bit}
-use Rattle.map_blocks.specs.declared.Found.TheVariants.{At, Nothing}
 use Rattle.map_blocks.proofs.Bits.{bit_zero}
 use Rattle.laws.proofs.Bools.{clash, order, both_ways}
 use Rattle.map_blocks.proofs.Fits.{Fits, is_fit, fit_is, no_fit, on_mod, mod_on, Spaced}
 use Rattle.map_blocks.proofs.Least.{least_at, least_none, least_same}
 use Rattle.map_blocks.proofs.Maps.{free_bit}
 use Rattle.map_blocks.proofs.Runs.{all_intro, all_break, all_part}
-use borrow.Author.Tests.{lt-ltb, le-ltb}
-use Rattle.map_search_near.specs.Answers.{start_of}
 use Rattle.map_search_starts.specs.Starts.{NoRun, FirstRun}
 use Rattle.map_search_starts.proofs.Steps.{on_add}
 
 -- ---- what is found
 
--- an answer as a number
-pub is_start : (before s : ℕ) → s < before → start_of before s ≡ At s
-is_start before s l = ap (λ (x : Bool). cond x (At s) Nothing) (lt-ltb s before l)
-
-pub is_nothing : (before : ℕ) → start_of before before ≡ Nothing
-is_nothing before = ap (λ (x : Bool). cond x (At before) Nothing) (le-ltb before before (omega arith))
-
 module _ (g : ℕ → Bool) (from before step k : ℕ) where
   pub found_at : (s : ℕ) → 0 < k → Fits g from before step k s → ((t : ℕ) → t < s → fit g from before step k t ≡ false)
-      → At s ≡ least_fit g from before step k
+      → Some s ≡ least_fit g from before step k
   unfolding least_fit
   found_at s h x none =
       let u : s + k ≤ before = x.high in
@@ -42,14 +33,14 @@ module _ (g : ℕ → Bool) (from before step k : ℕ) where
       (λ t a b. none t b))
 
   pub found_none : (c : ℕ) → before < c + k → ((t : ℕ) → t < c → fit g from before step k t ≡ false)
-      → Nothing ≡ least_fit g from before step k
+      → None ≡ least_fit g from before step k
   unfolding least_fit
   found_none c h none =
       sym (least_none (fit g from before step k) 0 before (λ t a b.
       ⊎_elim (λ u. none t u) (λ u. no_fit g from before step k t
       (λ x. let y : t + k ≤ before = x.high in absurd (omega arith))) (order t c)))
 
-  pub empty_window : 0 < k → before ≤ from → Nothing ≡ least_fit g from before step k
+  pub empty_window : 0 < k → before ≤ from → None ≡ least_fit g from before step k
   unfolding least_fit
   empty_window h l =
       sym (least_none (fit g from before step k) 0 before (λ t a b.
@@ -131,16 +122,17 @@ run_past g step k c r x e l spaced gap t a b on =
     all_break g t k (c + r) (omega arith) (omega arith) (spaced.stop (omega arith))
 
 -- from the words passed over on
-pub run_after : (q g : ℕ → Bool) (k a c b end r : ℕ) → a ≤ c → b ≤ end → NoRun q g k a c → FirstRun q g k c b r → r < b
+pub run_after : (q g : ℕ → Bool) (k a c b end r : ℕ) → a ≤ c → b ≤ end → NoRun q g k a c → FirstRun q g k c b r
     → FirstRun q g k a end r
-run_after q g k a c b end r l u none first h =
+run_after q g k a c b end r l u none first =
     let low : c ≤ r = first.low in
+    let high : r < b = first.high in
     record {
       low = omega arith;
       high = omega arith;
       none = λ t x y on. ⊎_elim (λ v. none t x v on) (λ v. first.none t v y on) (order t c);
-      start = λ v. first.start h;
-      fits = λ v. first.fits h;
+      start = first.start;
+      fits = first.fits;
     }
 
 pub no_run_after : (q g : ℕ → Bool) (k a b c : ℕ) → NoRun q g k a b → NoRun q g k b c → NoRun q g k a c

@@ -7,7 +7,7 @@ use mathlib.Core.List.{List}
 use Prim.Native.Nat.{ℕ, ◌+◌, ◌-◌, ◌*◌, ◌/◌, ◌%◌, ◌^◌, ◌≤◌, ◌<◌}
 use native.Mathlib.Omega.{arith}
 use lib.Dec.{leb, ltb}
-use lib.Bits.{bit_and, bit_or, or_add_and, and_le_l, and_le_r}
+use lib.Bits.{bit_and}
 use lib.Count.{count_leading_zeros, leading_le}
 use lib.ListN.{get_or}
 use borrow.Author.Tests.{le-leb, leb-true, lt-ltb}
@@ -18,13 +18,7 @@ use Rattle.map_blocks.proofs.Bits.{bit_and_lem, bit_zero, ones_shr}
 use Rattle.map_blocks.proofs.Maps.{free_bit}
 use Rattle.map_blocks.proofs.Runs.{all_part, all_same}
 use Rattle.map_search_word.proofs.Ends.{First, first_set}
-use Rattle.map_search_starts.specs.Starts.{Marks, Often, NoRun, FirstRun}
-
-pub or_zero : (a b : ℕ) → bit_or a b ≡ 0 → (a ≡ 0) × (b ≡ 0)
-or_zero a b e = (
-  omega (arith, or_add_and a b, and_le_l a b, and_le_r a b),
-  omega (arith, or_add_and a b, and_le_l a b, and_le_r a b),
-)
+use Rattle.map_search_starts.specs.Starts.{Marks, Often, NoRun}
 
 -- ---- blocks and starts as bits
 
@@ -80,16 +74,6 @@ no_pair map k i x mostly step may often z t a b on =
     (may (t / 64) (t % 64) (omega arith) (omega arith) (omega arith) (ap (λ (b : ℕ). all (free map) b k) (sym e) ∙ h))
     (often t on))
     (ap (λ (w : ℕ). bit w (t % 64)) z ∙ bit_zero (t % 64)))
-
--- none up to the end
-pub no_first : (q g : ℕ → Bool) (k a b : ℕ) → a ≤ b → NoRun q g k a b → FirstRun q g k a b b
-no_first q g k a b l none = record {
-  low = l;
-  high = omega arith;
-  none = none;
-  start = λ u. absurd (omega arith);
-  fits = λ u. absurd (omega arith);
-}
 
 -- ---- the first free block
 

@@ -1,11 +1,9 @@
 // The search from start to start, for starts that are far from each other.
 ghost use Rattle.std.specs.Prelude.{◌≡◌, true, false, ℕ, ◌+◌, ◌*◌, ◌%◌, ◌<◌, ◌≤◌, length};
 ghost use Rattle.map_blocks.specs.Blocks.{free, all, on_step, least_fit};
-ghost use Rattle.map_search_near.specs.Answers.{start_of};
 ghost use Rattle.map_search_starts.specs.Starts.{NoRun};
 
-use crate::taken::taken_words;
-use map_blocks::word::smaller;
+use map_search::groups::taken_words;
 use map_search_starts::ahead;
 use map_space::space;
 
@@ -41,7 +39,7 @@ fn past_run(r: u32, step: u32) -> u32
     r + 1 + ahead(r + 1, step)
 }
 
-// The first start from c on whose own block is free, or one behind stop.
+// The first start from c on whose own block is free, or the first behind stop: which that is only a `while` knows at its end.
 fn open_start(map: &[u64], c: u32, stop: u32, step: u32) -> u32
     requires { (c ≤ stop) × (stop < 262144) × (stop < 64 * length map.now) × (0 < step) × (step ≤ 262144)
         × (c % step ≡ 0) }
@@ -80,25 +78,25 @@ fn some_starts(map: &[u64], c: u32, stop: u32, step: u32, k: u32) -> u32
     s
 }
 
-// The least fit for k, or `before`: from start to start, eight at a time; after each eight, words that are all taken are
+// The least fit for k: from start to start, eight at a time; after each eight, words that are all taken are
 // passed over.
-pub fn search_far(map: &[u64], from: u32, before: u32, step: u32, k: u32) -> u32
+pub fn search_far(map: &[u64], from: u32, before: u32, step: u32, k: u32) -> Option<u32>
     requires { (from < before) × (before ≤ 262144) × (before ≤ 64 * length map.now) × (0 < k) × (k ≤ before)
         × (0 < step) × (step ≤ 262144) }
-    ensures { start_of before result ≡ least_fit (free map.now) from before step k }
+    ensures { result ≡ least_fit (free map.now) from before step k }
 {
     let last = before - k;
     let mut c = from + ahead(from, step);
     while c <= last {
-        let stop = smaller(last, c + 7 * step);
+        let stop = last.min(c + 7 * step);
         let s = some_starts(map, c, stop, step, k);
         if s <= stop {
-            return s;
+            return Some(s);
         }
         if last < s {
-            return before;
+            return None;
         }
         c = past_taken(map, s, before, step);
     }
-    before
+    None
 }

@@ -124,15 +124,9 @@ module _ (q f : ℕ → Bool) (k c base g m : ℕ) (room : c ≤ base + 64)
       (bit_and_lem g m (t - base) ∙ and_both (bit g (t - base)) (bit m (t - base))
       (may (t - base) (omega arith) (ap (λ (b : ℕ). all f b k) p ∙ h)) on) e)
 
-  pub nothing_there : bit_and g m ≡ 0 → FirstRun q f k c (base + 64) (base + 64)
-  nothing_there z = record {
-    low = room;
-    high = omega arith;
-    none = λ t a b x. ⊎_elim (λ u. before t a u x)
-        (λ u. no_bit t u b a x (ap (λ (v : ℕ). bit v (t - base)) z ∙ bit_zero (t - base))) (order t base);
-    start = λ u. absurd (omega arith);
-    fits = λ u. absurd (omega arith);
-  }
+  pub nothing_there : bit_and g m ≡ 0 → NoRun q f k c (base + 64)
+  nothing_there z = λ t a b x. ⊎_elim (λ u. before t a u x)
+      (λ u. no_bit t u b a x (ap (λ (v : ℕ). bit v (t - base)) z ∙ bit_zero (t - base))) (order t base)
 
   pub there : (r : ℕ) → First (bit_and g m) r → (bit g r ≡ true → all f (base + r) k ≡ true)
       → FirstRun q f k c (base + 64) (base + r)
@@ -145,6 +139,6 @@ module _ (q f : ℕ → Bool) (k c base g m : ℕ) (room : c ≤ base + 64)
         high = omega arith;
         none = λ t a b x. ⊎_elim (λ u. before t a u x)
             (λ u. no_bit t u (omega arith) a x (first.before (t - base) (omega arith))) (order t base);
-        start = λ u. and_left (q (base + r)) (leb c (base + r)) on;
-        fits = λ u. is (and_left (bit g r) (bit m r) both);
+        start = and_left (q (base + r)) (leb c (base + r)) on;
+        fits = is (and_left (bit g r) (bit m r) both);
       }

@@ -4,7 +4,7 @@ use mathlib.Core.Path.{◌≡◌, refl, sym, ap, ap₂, ◌∙◌}
 use mathlib.Core.Logic.{⊎_elim}
 use mathlib.Core.Bool.{Bool, true, false, ◌&&◌, ◌||◌}
 use Prim.Native.Nat.{ℕ, zero, suc, ◌+◌, ◌-◌, ◌*◌, ◌/◌, ◌%◌, ◌^◌, ◌≤◌, ◌<◌}
-use native.Mathlib.Nat.{mod-add-mod, mod_self, mod-eq_of_lt, zero-add, mod-lt, zero-mod, mul-mod_left, div-add-mod'}
+use native.Mathlib.Nat.{mod-add-mod, mod_self, mod-eq_of_lt, zero-add, zero-mod, mul-mod_left, div-add-mod'}
 use native.Mathlib.Omega.{arith}
 use lib.Dec.{eqb, leb, ltb}
 use lib.Bits.{bit_or}
@@ -43,15 +43,6 @@ none_ahead step base r j e a b =
   where
     less : (r j step : ℕ) → j < r → r < step → r - j < step
     less r j step a b = omega arith
-
--- from a block to the next multiple
-pub to_next : (base step : ℕ) → 0 < step → (base + (step - base % step)) % step ≡ 0
-to_next base step h =
-    sym (mod-add-mod base step (step - base % step))
-    ∙ ap (λ (x : ℕ). x % step) (whole (base % step) step (mod-lt base h)) ∙ mod_self step
-  where
-    whole : (p step : ℕ) → p < step → p + (step - p) ≡ step
-    whole p step l = omega arith
 
 -- ---- as bits
 

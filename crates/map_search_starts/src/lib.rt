@@ -2,15 +2,16 @@
 // has. The starts that are multiples of a step (document 02, request a) are such a word.
 #![tactic(auto)]
 
-ghost use Rattle.std.specs.Prelude.{◌≡◌, Bool, true, ◌&&◌, ℕ, ◌+◌, ◌-◌, ◌%◌, ◌<◌, ◌≤◌, leb};
+ghost use Rattle.std.specs.Prelude.{◌≡◌, Bool, true, ◌&&◌, ℕ, ◌+◌, ◌-◌, ◌%◌, ◌<◌, ◌≤◌, leb, IfSome};
 ghost use Rattle.map_blocks.specs.Blocks.{all, on_step};
 ghost use Rattle.map_blocks.specs.Words.{bit, Mask};
-ghost use Rattle.map_search_starts.specs.Starts.{Marks, Head, Alone, Often, NoRun, FirstRun};
+ghost use Rattle.map_search_starts.specs.Starts.{Marks, Head, Alone, Often, NoRun, FindsFirst};
 
-use map_blocks::word::{ONES, smaller, span};
+use map_blocks::word::{ONES, span};
 use map_search_word::word::{gaps, tail};
 
-// The multiples of step below 64, as bits of a word.
+// The multiples of step below 64, as bits of a word. Each round doubles how far they go, so that it is a `while`: one round for
+// each multiple takes longer.
 pub fn multiples(step: u32) -> u64
     requires { (0 < step) × (step < 64) }
     ensures { Marks (on_step step) 0 result }
@@ -18,7 +19,7 @@ pub fn multiples(step: u32) -> u64
     let mut m = span(0, 1);
     let mut done = step;
     while done < 64 {
-        m = m | (m >> done);
+        m |= m >> done;
         done += done;
     }
     m
@@ -30,16 +31,12 @@ fn past(base: u32, step: u32) -> u32
     requires { 0 < step }
     ensures { result ≡ base % step }
 {
-    if step == 1 {
-        return 0;
+    match step {
+        1 => 0,
+        2 => base % 2,
+        8 => base % 8,
+        _ => base % step,
     }
-    if step == 2 {
-        return base % 2;
-    }
-    if step == 8 {
-        return base % 8;
-    }
-    base % step
 }
 
 // How far behind block base the next multiple of step is: 0 where base is one.
@@ -115,7 +112,7 @@ pub fn head(n: u64) -> u32
     if n == ONES {
         return 64;
     }
-    u64::leading_zeros(!n)
+    (!n).leading_zeros()
 }
 
 // The blocks of a word from which on k are free; n is the word behind. A run of k lies in the word, or is made of the ones that
@@ -124,24 +121,24 @@ pub fn runs(w: u64, n: u64, k: u32) -> u64
     requires { (0 < k) × (k ≤ 64) }
     ensures { (f : ℕ → Bool) (base : ℕ) → Marks f base w → Marks f (base + 64) n → Marks (λ b. all f b k) base result }
 {
-    let over = ending(tail(w)) & span(0, smaller(65 + head(n) - k, 64));
+    let over = ending(tail(w)) & span(0, (65 + head(n) - k).min(64));
     gaps(w, k) | over
 }
 
-// The first start of m in a word, whose first block is base, from which on k blocks are free; base + 64 where there is none.
-// n is the word behind. Mostly no start of m has even two free blocks, and the rest is not worked out.
-pub fn look(w: u64, n: u64, m: u64, base: u32, k: u32, lone: u64) -> u32
+// The first start of m in a word, whose first block is base, from which on k blocks are free. n is the word behind. Mostly no
+// start of m has even two free blocks, and the rest is not worked out.
+pub fn look(w: u64, n: u64, m: u64, base: u32, k: u32, lone: u64) -> Option<u32>
     requires { (base ≤ 262144) × (0 < k) × (k ≤ 64) × Alone k lone }
     ensures by_index { (q f : ℕ → Bool) (c : ℕ) → c ≤ base + 64 → Marks f base w → Marks f (base + 64) n
-        → Marks (λ b. q b && leb c b) base m → NoRun q f k c base → FirstRun q f k c (base + 64) result }
-    ensures lower_bound { (base ≤ result) × (result ≤ base + 64) }
+        → Marks (λ b. q b && leb c b) base m → NoRun q f k c base → FindsFirst q f k c (base + 64) result }
+    ensures lower_bound { IfSome result (λ r. (base ≤ r) × (r < base + 64)) }
 {
     if pairs(w, n, lone) & m == 0 {
-        return base + 64;
+        return None;
     }
     let g = runs(w, n, k) & m;
     if g == 0 {
-        return base + 64;
+        return None;
     }
-    base + u64::leading_zeros(g)
+    Some(base + g.leading_zeros())
 }

@@ -1,2 +1,2 @@
--- What the contracts of `scan` cite.
+-- What the contracts of `scan_word` cite.
 pub mod Scan

@@ -1,11 +1,11 @@
--- What a search knows of one word, and as it passes from word to word. Names for the contracts of `scan`, and of the
--- functions of `search` that go through a map by it.
+-- What a search knows of one word, and as it passes from word to word. Names for the contracts of `scan_word`, and of the
+-- functions of crate map_search that go through a map by it.
 -- Assumes nothing.
 use Rattle.std.specs.Prelude.{ℕ, suc, ◌+◌, ◌-◌, ◌≤◌, ◌<◌, ◌≡◌, Bool, true, false}
+use Rattle.std.specs.declared.ops.ControlFlow.{ControlFlow}
+use Rattle.std.specs.declared.ops.ControlFlow.TheVariants.{Break, Continue}
 use Rattle.map_blocks.specs.Blocks.{all}
 use Rattle.map_blocks.specs.Words.{bit}
-use Rattle.map_search_word.specs.declared.Step.{Step}
-use Rattle.map_search_word.specs.declared.Step.TheVariants.{Hit, Next}
 
 -- Every run of k bits in a word holds the bits of m.
 abbrev pub Core : ℕ → ℕ → Type 0
@@ -31,11 +31,11 @@ pub record Least (f : ℕ → Bool) (k r : ℕ) : Type 0 where
   pub none : (t : ℕ) → t < r → all f t k ≡ false
 
 -- What a search knows once it has passed the words before block `end`.
-abbrev pub Stepped : (ℕ → Bool) → ℕ → ℕ → Step → Type 0
-Stepped f k end (Hit r) = Least f k r
-Stepped f k end (Next s) = Carried f k end s
+abbrev pub Stepped : (ℕ → Bool) → ℕ → ℕ → ControlFlow ℕ ℕ → Type 0
+Stepped f k end (Break r) = Least f k r
+Stepped f k end (Continue s) = Carried f k end s
 
 -- The same of the numbers alone, whichever blocks are free.
-abbrev pub Bounded : ℕ → ℕ → Step → Type 0
-Bounded k end (Hit r) = r ≤ end
-Bounded k end (Next s) = (s < k) × (s ≤ end)
+abbrev pub Bounded : ℕ → ℕ → ControlFlow ℕ ℕ → Type 0
+Bounded k end (Break r) = r ≤ end
+Bounded k end (Continue s) = (s < k) × (s ≤ end)

@@ -8,14 +8,16 @@ ghost use Rattle.map_search_word.specs.Scan.{Core, Carried, Stepped, Bounded};
 
 pub mod word;
 
-use map_blocks::word::{has_all, smaller, span};
+use map_blocks::word::{has_all, span};
+use std::ops::ControlFlow;
 use word::{gaps, tail};
 
-// What the words passed tell a search: where the run that it wants starts, or how many free blocks they end in.
+// What is looked for: runs of k blocks. The core has bits that each of them has, where it lies in one word.
 #[derive(Clone, Copy)]
-pub enum Step {
-    Hit(u32),
-    Next(u32),
+pub struct Sought {
+    pub k: u32,
+    pub core: u64,
+    ghost shared: { Core k core },
 }
 
 // Where the s free blocks right before block base start. The formula of 003, section 4.1, points one word late where s is
@@ -35,31 +37,31 @@ pub fn core_of(k: u32) -> u64
     if k < 48 {
         return 0;
     }
-    let inside = smaller(k, 64);
+    let inside = k.min(64);
     span(64 - inside, inside)
 }
 
 // The search at one word, whose first block is base, with s free blocks before it: the three steps of 003, section 3. A
 // word that lacks a bit of the core has no run of k.
-pub fn scan_word(w: u64, base: u32, s: u32, k: u32, core: u64) -> Step
-    requires { (base ≤ 262144) × (s ≤ base) × (s < k) × Core k core }
-    ensures bounded { Bounded k (base + 64) result }
-    ensures by_index { (f : ℕ → Bool) → ((j : ℕ) → j < 64 → bit w j ≡ f (base + j)) → Carried f k base s
-        → Stepped f k (base + 64) result }
+pub fn scan_word(w: u64, base: u32, s: u32, sought: Sought) -> ControlFlow<u32, u32>
+    requires { (base ≤ 262144) × (s ≤ base) × (s < sought.k) }
+    ensures bounded { Bounded sought.k (base + 64) result }
+    ensures by_index { (f : ℕ → Bool) → ((j : ℕ) → j < 64 → bit w j ≡ f (base + j)) → Carried f sought.k base s
+        → Stepped f sought.k (base + 64) result }
 {
-    let wanted = k - s;
-    if has_all(w, span(0, smaller(wanted, 64))) {
+    let wanted = sought.k - s;
+    if has_all(w, span(0, wanted.min(64))) {
         if 64 < wanted {
-            return Step::Next(s + 64);
+            return ControlFlow::Continue(s + 64);
         }
-        return Step::Hit(run_start(base, s));
+        return ControlFlow::Break(run_start(base, s));
     }
-    if has_all(w, core) {
-        let g = gaps(w, k);
+    if has_all(w, sought.core) {
+        let g = gaps(w, sought.k);
         if g == 0 {
-            return Step::Next(tail(w));
+            return ControlFlow::Continue(tail(w));
         }
-        return Step::Hit(base + u64::leading_zeros(g));
+        return ControlFlow::Break(base + g.leading_zeros());
     }
-    Step::Next(tail(w))
+    ControlFlow::Continue(tail(w))
 }

@@ -5,8 +5,6 @@ ghost use Rattle.map_blocks.specs.Blocks.{all};
 ghost use Rattle.map_blocks.specs.Words.{bit};
 ghost use Rattle.map_search_word.specs.Scan.{Tail};
 
-use map_blocks::word::smaller;
-
 // Bit j of the result is 1 where the 16 bits of w from j on are: the first four rounds of 003, section 4.2, without a
 // branch between them. Shifts go left, so that a bit marks a run's start.
 pub fn sixteens(w: u64) -> u64
@@ -18,7 +16,8 @@ pub fn sixteens(w: u64) -> u64
     eights & (eights << 8)
 }
 
-// The rounds from runs of `have` to runs of k, each of which shifts by as much as it can. They stop where no run is left.
+// The rounds from runs of `have` to runs of k, each of which shifts by as much as it can. They stop where no run is left. How
+// far a round goes is known only in it, so that this is a `while`.
 fn rounds(runs: u64, have: u32, k: u32) -> u64
     requires { (0 < have) × (have ≤ k) × (k ≤ 64) }
     ensures { (w : ℕ) → ((j : ℕ) → bit runs j ≡ all (bit w) j have) → (j : ℕ) → bit result j ≡ all (bit w) j k }
@@ -29,7 +28,7 @@ fn rounds(runs: u64, have: u32, k: u32) -> u64
         if g == 0 {
             return 0;
         }
-        let shift = smaller(done, k - done);
+        let shift = done.min(k - done);
         g = g & (g << shift);
         done += shift;
     }
@@ -54,5 +53,5 @@ pub fn gaps(w: u64, k: u32) -> u64
 pub fn tail(w: u64) -> u32
     ensures { Tail w result }
 {
-    u64::trailing_zeros(!w)
+    (!w).trailing_zeros()
 }

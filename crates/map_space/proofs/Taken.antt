@@ -8,10 +8,10 @@ use Prim.Native.Nat.{ℕ, ◌+◌, ◌-◌, ◌*◌, ◌/◌, ◌%◌, ◌^◌, 
 use native.Mathlib.Omega.{arith}
 use lib.Dec.{leb}
 use lib.ListN.{get_or}
-use borrow.Author.Tests.{le-leb, lt-leb, leb-true, not-false, not-true}
+use borrow.Author.Tests.{le-leb, leb-true, not-false, not-true}
 use Rattle.map_blocks.specs.Blocks.{free}
 use Rattle.map_blocks.specs.Words.{bit}
-use Rattle.laws.proofs.Bools.{and_left, and_right, and_swap, clash, order}
+use Rattle.laws.proofs.Bools.{and_left, and_right, clash, order}
 use Rattle.map_blocks.proofs.Bits.{bit_zero, bit_not, bit_shl, bit_past}
 use Rattle.map_blocks.proofs.Maps.{free_bit}
 use Rattle.map_search_word.proofs.Ends.{First}
@@ -81,16 +81,7 @@ module _ (map : List ℕ) (start w : ℕ) (is : w ≡ get_or map (start / 64) 0)
     head-before t l u = let v : start % 64 + r < 64 = within in
         in_word t l (omega arith) (first.before (t - start) (omega arith))
 
--- a word of free blocks from the start on
-pub none_takes : (g : ℕ → Bool) (start base w : ℕ) → w ≡ 0 → ((t : ℕ) → start ≤ t → t < base + 64 → g t ≡ true)
-    → Takes g start base w
-none_takes g start base w z held j l = ap (λ (x : ℕ). bit x j) z ∙ bit_zero j
-    ∙ sym (⊎_elim (λ u. ap (λ (x : Bool). x && not (g (base + j))) (lt-leb start (base + j) u))
-    (λ u. and_swap (leb start (base + j)) (not (g (base + j)))
-    ∙ ap (λ (x : Bool). not x && leb start (base + j)) (held (base + j) u (omega arith)))
-    (order (base + j) start))
-
--- a word behind it
+-- a word behind that of the start
 pub later_word : (map : List ℕ) (start i w : ℕ) → w ≡ get_or map i 0 → w < 2 ^ 64 → start ≤ i * 64
     → Takes (free map) start (i * 64) ((2 ^ 64 - 1) - w)
 later_word map start i w is b a j l =

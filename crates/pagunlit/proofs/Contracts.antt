@@ -1,7 +1,7 @@
 -- The contracts of the C library, of its functions themselves: what each ensures is the proposition that stands here, by
--- computation (`..-contract`), and it asks nothing of its caller (`..-asks-nothing`). So a clause of the source that is made
+-- computation (`.._contract`), and it asks nothing of its caller (`.._asks_nothing`). So a clause of the source that is made
 -- weaker, or one that asks something, is refused here. A call ensures what the public call of its name
--- (crate role_calls) does, with `reply_of` of the outcome for its reply; seal and check ensure what those of the crate block
+-- (crate card) does, with `reply_of` of the outcome for its reply; seal and check ensure what those of the crate block
 -- do.
 -- Assumes nothing.
 use mathlib.Core.Path.{◌≡◌, refl}

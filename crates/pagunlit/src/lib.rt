@@ -1,5 +1,5 @@
 // The C library: every call of the card for the dispenser's C program (include/pagunlit.h). Each function makes the public
-// call of its name (crate role_calls), with the role of who makes it, and turns the outcome into document 01's numbers. A slice
+// call of its name (crate card), with the role of who makes it, and turns the outcome into document 01's numbers. A slice
 // is a pointer and a length to C; the shape, the entries and the reply are structs of 32-bit numbers.
 #![tactic(auto)]
 
@@ -346,7 +346,10 @@ pub extern "C" fn pagunlit_write_count(payload: &mut [u8], which: u32, hundredth
     ensures { (result ≡ write_answer payload.old which (count_from hundredths))
         × (payload.new ≡ after_write payload.old which (count_from hundredths)) }
 {
-    counts::write_count(payload, which, counts::count_from(hundredths))
+    match counts::write_count(payload, which, counts::count_from(hundredths)) {
+        Ok(()) => 0,
+        Err(error) => error.number(),
+    }
 }
 
 // The two days of a term, as the crate calendar has them.
@@ -356,5 +359,8 @@ pub extern "C" fn pagunlit_write_term(payload: &mut [u8], first: u32, last: u32)
     ensures { (result ≡ term_answer payload.old)
         × (payload.new ≡ with_term payload.old first last) }
 {
-    calendar::write_term(payload, first, last)
+    match calendar::write_term(payload, first, last) {
+        Ok(()) => 0,
+        Err(error) => error.number(),
+    }
 }

@@ -1,4 +1,5 @@
-// The C functions on a summary beside the map, and of the calls that are lent one (document 02, request j).
+// The C functions on a summary beside the map, and of the calls that are lent one (document 02, request j), each beside the one
+// without a summary, as C has them.
 ghost use Rattle.pagunlit_replies.specs.Replies.{reply_of};
 ghost use Rattle.card.specs.Ends.{summary_build_end, summary_check_end, reserve_with_summary_end};
 ghost use Rattle.card.specs.Ends.{reserve_placed_with_summary_end};

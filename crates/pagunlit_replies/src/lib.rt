@@ -1,8 +1,7 @@
 // What the C library hands back of an outcome: document 01's number and values, as a struct of 32-bit numbers.
 #![tactic(auto)]
 
-ghost use Rattle.std.specs.Prelude.{◌≡◌, get_or};
-ghost use Rattle.catalogue_standings.specs.Answers.{number_of, values_of};
+ghost use Rattle.std.specs.Prelude.{◌≡◌};
 ghost use Rattle.pagunlit_replies.specs.Replies.{reply_of};
 
 use card::{Outcome, Shape};
@@ -19,74 +18,42 @@ pub struct Reply {
     pub third: u32,
 }
 
-// 0 or the refusal's number.
-fn number_of(answer: Answer) -> u32
-    ensures { result ≡ number_of answer }
-{
-    match answer {
-        Answer::Done => 0,
-        Answer::Start(_, _) => 0,
-        Answer::Reads(_, _, _) => 0,
-        Answer::Counted(_, _, _) => 0,
-        Answer::Own(_) => 0,
-        Answer::Blank(_) => 9,
-        Answer::Refused(number) => number,
-    }
-}
-
-// The first, the second and the third of the answer's values.
-fn first_of(answer: Answer) -> u32
-    ensures { result ≡ get_or (values_of answer) 0 0 }
-{
-    match answer {
-        Answer::Done => 0,
-        Answer::Start(start, _) => start,
-        Answer::Reads(mark, _, _) => mark,
-        Answer::Counted(free, _, _) => free,
-        Answer::Own(own) => own,
-        Answer::Blank(place) => place,
-        Answer::Refused(_) => 0,
-    }
-}
-
-fn second_of(answer: Answer) -> u32
-    ensures { result ≡ get_or (values_of answer) 1 0 }
-{
-    match answer {
-        Answer::Done => 0,
-        Answer::Start(_, space) => space,
-        Answer::Reads(_, start, _) => start,
-        Answer::Counted(_, runs, _) => runs,
-        Answer::Own(_) => 0,
-        Answer::Blank(_) => 0,
-        Answer::Refused(_) => 0,
-    }
-}
-
-fn third_of(answer: Answer) -> u32
-    ensures { result ≡ get_or (values_of answer) 2 0 }
-{
-    match answer {
-        Answer::Done => 0,
-        Answer::Start(_, _) => 0,
-        Answer::Reads(_, _, length) => length,
-        Answer::Counted(_, _, longest) => longest,
-        Answer::Own(_) => 0,
-        Answer::Blank(_) => 0,
-        Answer::Refused(_) => 0,
-    }
-}
-
+// Document 01's number and values of the outcome.
 pub fn reply_of(outcome: Outcome) -> Reply
     ensures { result ≡ reply_of outcome }
 {
-    let shape = outcome.shape;
-    let answer = outcome.answer;
-    Reply {
-        shape: shape,
-        number: number_of(answer),
-        first: first_of(answer),
-        second: second_of(answer),
-        third: third_of(answer),
+    let done = Reply {
+        shape: outcome.shape,
+        number: 0,
+        first: 0,
+        second: 0,
+        third: 0,
+    };
+    match outcome.answer {
+        Answer::Done => done,
+        Answer::Start(start, space) => Reply {
+            first: start,
+            second: space,
+            ..done
+        },
+        Answer::Reads(mark, start, length) => Reply {
+            first: mark,
+            second: start,
+            third: length,
+            ..done
+        },
+        Answer::Counted(free, runs, longest) => Reply {
+            first: free,
+            second: runs,
+            third: longest,
+            ..done
+        },
+        Answer::Own(own) => Reply { first: own, ..done },
+        Answer::Blank(place) => Reply {
+            number: 9,
+            first: place,
+            ..done
+        },
+        Answer::Refused(number) => Reply { number, ..done },
     }
 }

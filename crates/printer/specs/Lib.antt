@@ -5,4 +5,3 @@ pub mod Lines
 pub mod Text
 pub mod ExampleFigures
 pub mod Printed
-pub mod Sheets

@@ -1,5 +1,5 @@
--- What the card printer prints (document 01, "Saved image"), in ASCII. The lines of a card's text are those of `lines`
--- (specs/Lines.antt there).
+-- What the card printer prints (document 01, "Saved image"), in ASCII. The lines of a card's text are those of Lines.antt,
+-- beside this file.
 -- Assumes nothing.
 use Rattle.std.specs.Prelude.{List, [], ◌∷◌, ◌++◌, ℕ, suc, ◌<◌, ◌≤◌, length}
 use Rattle.map_blocks.specs.Blocks.{free}

@@ -2,12 +2,10 @@
 // to a lent text; what finds no room there is left out, so that no length has to be asked for.
 #![tactic(auto)]
 
-ghost use Rattle.std.specs.Prelude.{[], ◌∷◌, ◌≡◌};
+ghost use Rattle.std.specs.Prelude.{[], ◌∷◌};
 ghost use Rattle.printer.specs.Decimal.{decimal, numeral};
 ghost use Rattle.printer.specs.Lines.{card_line, runs_line, sheet_line};
-ghost use Rattle.printer.specs.Sheets.{head_writer, head_written, line_writer, line_written};
-ghost use Rattle.printer.specs.Sheets.{lines_writer, lines_written, place_of};
-ghost use Rattle.printer.specs.Text.{refusal_text};
+ghost use Rattle.printer.specs.Text.{sheet_lines, card_text, refusal_text};
 ghost use Rattle.printer.specs.Writing.{Writes};
 
 use catalogue::Entry;
@@ -33,10 +31,8 @@ pub fn write_word(text: &mut [u8], at: usize, word: &[u8]) -> usize
     ensures { Writes word.now text.old at result text.new }
 {
     let mut place = at;
-    let mut i: usize = 0;
-    while i < word.len() {
-        place = write_byte(text, place, word[i]);
-        i += 1;
+    for byte in word {
+        place = write_byte(text, place, *byte);
     }
     place
 }
@@ -91,78 +87,30 @@ pub fn write_line(text: &mut [u8], at: usize, sheet: usize, entry: Entry) -> usi
     write_numeral(text, at, entry.length as usize, NEWLINE)
 }
 
-// Where the next line goes, which sheet it is of, and whether there is none to go on to.
-#[derive(Clone, Copy)]
-pub struct Writer {
-    pub at: usize,
-    pub sheet: usize,
-    pub stop: bool,
-}
-
-// Writes the first two lines. Those of the sheets go behind them.
-pub fn write_head(n: u32, free: u32, c: usize, counts: Counts, text: &mut [u8]) -> Writer
-    ensures { (result ≡ head_writer n free c counts text.old)
-        × (text.new ≡ head_written n free c counts text.old) }
-{
-    let second = write_card(text, 0, n, free, c);
-    let third = write_runs(text, second, counts);
-    Writer {
-        at: third,
-        sheet: 0,
-        stop: false,
-    }
-}
-
-// Writes the line of the cursor's sheet, if there is room.
-fn write_sheet(from: Writer, text: &mut [u8], entry: Entry) -> Writer
-    ensures { (result ≡ line_writer from text.old entry)
-        × (text.new ≡ line_written from text.old entry) }
-{
-    let at = from.at;
-    let sheet = from.sheet;
-    if from.stop {
-        return Writer {
-            at: at,
-            sheet: sheet,
-            stop: true,
-        };
-    }
-    if text.len() <= sheet {
-        return Writer {
-            at: at,
-            sheet: sheet,
-            stop: true,
-        };
-    }
-    let last = write_line(text, at, sheet, entry);
-    Writer {
-        at: last,
-        sheet: sheet + 1,
-        stop: false,
-    }
-}
-
 // Writes a line for each sheet.
-pub fn write_sheets(catalogue: &[Entry], start: Writer, text: &mut [u8]) -> Writer
-    ensures { (result ≡ lines_writer catalogue.now start text.old)
-        × (text.new ≡ lines_written catalogue.now start text.old) }
+pub fn write_sheets(text: &mut [u8], at: usize, catalogue: &[Entry]) -> usize
+    ensures { Writes (sheet_lines 0 catalogue.now) text.old at result text.new }
 {
-    let mut state = start;
-    let mut i: usize = 0;
-    while i < catalogue.len() {
-        state = write_sheet(state, text, catalogue[i]);
-        if state.stop {
-            break;
-        }
-        i += 1;
+    let mut place = at;
+    for (sheet, entry) in catalogue.iter().enumerate() {
+        place = write_line(text, place, sheet, *entry);
     }
-    state
+    place
 }
 
-pub fn place_of(cursor: Writer) -> usize
-    ensures { result ≡ place_of cursor }
+// Writes the text of a card, and gives the number of bytes written.
+pub fn describe_card(
+    n: u32,
+    free: u32,
+    counts: Counts,
+    catalogue: &[Entry],
+    text: &mut [u8],
+) -> usize
+    ensures { Writes (card_text n free counts catalogue.now) text.old 0 result text.new }
 {
-    cursor.at
+    let second = write_card(text, 0, n, free, catalogue.len());
+    let third = write_runs(text, second, counts);
+    write_sheets(text, third, catalogue)
 }
 
 // Writes the text of a refusal, and gives the number of bytes written. 19 bytes are enough.

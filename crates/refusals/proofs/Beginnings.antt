@@ -1,6 +1,9 @@
 -- What the first rows say of a call that gives blocks to an Absent sheet, and of one that adds blocks to an Open one: the
 -- verdict in each case, and what comes of the rows behind them.
 -- Assumes nothing.
+use Rattle.std.specs.Prelude.{Ok, Err}
+use Rattle.catalogue_standings.specs.Refusals.{number}
+use Rattle.catalogue_standings.specs.declared.Refusal.{Refusal}
 use mathlib.Core.Path.{◌≡◌, refl, ◌∙◌}
 use mathlib.Core.List.{List, []}
 use mathlib.Core.Bool.{true}
@@ -8,14 +11,13 @@ use Prim.Native.Nat.{ℕ, ◌<◌}
 use borrow.Author.Tests.{eq-eqb, ne_eqb, eqb-false, not-false}
 use Rattle.map_blocks.specs.Blocks.{free}
 use Rattle.catalogue_standings.specs.Openings.{row_of}
-use Rattle.catalogue_standings.specs.Rows.{Row, Verdict, accepted, refused, first_of, settle, row_number}
+use Rattle.catalogue_standings.specs.Rows.{Row, Verdict, accepted, refused, first_of, settle}
 use Rattle.catalogue_standings.specs.Standings.{start_of, length_of}
-use Rattle.catalogue_standings.specs.declared.Opened.TheVariants.{Refused, Stands}
 use Rattle.catalogue_standings.specs.declared.Standing.{Standing}
 use Rattle.catalogue_standings.specs.declared.Standing.TheVariants.{Absent, Open}
 use Rattle.catalogue_standings.proofs.Openings.{NotAbsent, NotOpen, Extent, closed, skip, stop, none_left}
 use Rattle.catalogue_standings.proofs.Openings.{open_extent}
-use Rattle.catalogue_standings.proofs.Rows.{clear, first_then, zero_accepts}
+use Rattle.catalogue_standings.proofs.Rows.{clear, first_then}
 use Rattle.refusals.specs.Effects.{giving_verdict, adding_verdict}
 use lib.ListN.{length}
 use Rattle.laws.proofs.Bools.{and_left}
@@ -50,34 +52,25 @@ module _ (q : Lent) (k : ℕ) where
 
   -- ---- an Absent sheet
 
-  pub giving_shut : (number : ℕ) → first q ≡ Refused number → giving_verdict q k ≡ refused number
+  pub giving_shut : (why : Refusal) → first q ≡ Err why → giving_verdict q k ≡ refused (number why)
   unfolding giving_verdict view_on
-  giving_shut number h = closed _ _ _ _ _ _ number h
+  giving_shut why h = closed _ _ _ _ _ _ why h
 
-  pub giving_turned : q.turned ≡ true → giving_verdict q k ≡ refused 21
-  unfolding giving_verdict view_on
-  giving_turned t = stop 21 _ _ t
-
-  pub giving_other : (s : Standing) → first q ≡ Stands s → NotAbsent s → giving_verdict q k ≡ refused (row_of s)
+  pub giving_other : (s : Standing) → first q ≡ Ok s → NotAbsent s → giving_verdict q k ≡ refused (row_of s)
   unfolding giving_verdict view_on
   giving_other s h differs = absent_else _ _ _ _ _ _ s h differs
 
-  pub giving_nothing : first q ≡ Stands Absent → k ≡ 0 → giving_verdict q k ≡ refused 3
+  pub giving_nothing : first q ≡ Ok Absent → k ≡ 0 → giving_verdict q k ≡ refused 3
   unfolding giving_verdict view_on
   giving_nothing h z = absent_passes _ _ _ _ _ _ h ∙ stop 3 _ _ (eq-eqb k 0 z)
 
-  pub giving_passes : first q ≡ Stands Absent → (k ≡ 0 → ⊥) → giving_verdict q k ≡ accepted
+  pub giving_passes : first q ≡ Ok Absent → (k ≡ 0 → ⊥) → giving_verdict q k ≡ accepted
   unfolding giving_verdict view_on
   giving_passes h z = absent_passes _ _ _ _ _ _ h ∙ skip 3 _ _ _ (ne_eqb k 0 z) none_left
 
   pub giving_then : (rows : List Row) → first_of (giving_rows rows) ≡ behind (giving_verdict q k) rows
   unfolding giving_verdict
   giving_then rows = first_then (giving_rows []) rows
-
-  -- no row has the number 0
-  pub giving_zero : row_number (giving_verdict q k) ≡ 0 → giving_verdict q k ≡ accepted
-  unfolding giving_verdict
-  giving_zero = zero_accepts (giving_rows []) refl
 
   pub record Given : Type 0 where
     pub sizes : Sized q
@@ -96,33 +89,25 @@ module _ (q : Lent) (k : ℕ) where
 
   -- ---- an Open sheet
 
-  pub adding_shut : (number : ℕ) → first q ≡ Refused number → adding_verdict q k ≡ refused number
+  pub adding_shut : (why : Refusal) → first q ≡ Err why → adding_verdict q k ≡ refused (number why)
   unfolding adding_verdict view_on
-  adding_shut number h = closed _ _ _ _ _ _ number h
+  adding_shut why h = closed _ _ _ _ _ _ why h
 
-  pub adding_turned : q.turned ≡ true → adding_verdict q k ≡ refused 21
-  unfolding adding_verdict view_on
-  adding_turned t = stop 21 _ _ t
-
-  pub adding_other : (s : Standing) → first q ≡ Stands s → NotOpen s → adding_verdict q k ≡ refused (row_of s)
+  pub adding_other : (s : Standing) → first q ≡ Ok s → NotOpen s → adding_verdict q k ≡ refused (row_of s)
   unfolding adding_verdict view_on
   adding_other s h differs = open_else _ _ _ _ _ _ s h differs
 
-  pub adding_nothing : (start blocks : ℕ) → first q ≡ Stands (Open start blocks) → k ≡ 0 → adding_verdict q k ≡ refused 3
+  pub adding_nothing : (start blocks : ℕ) → first q ≡ Ok (Open start blocks) → k ≡ 0 → adding_verdict q k ≡ refused 3
   unfolding adding_verdict view_on
   adding_nothing start blocks h z = open_passes _ _ _ _ _ _ start blocks h ∙ stop 3 _ _ (eq-eqb k 0 z)
 
-  pub adding_passes : (start blocks : ℕ) → first q ≡ Stands (Open start blocks) → (k ≡ 0 → ⊥) → adding_verdict q k ≡ accepted
+  pub adding_passes : (start blocks : ℕ) → first q ≡ Ok (Open start blocks) → (k ≡ 0 → ⊥) → adding_verdict q k ≡ accepted
   unfolding adding_verdict view_on
   adding_passes start blocks h z = open_passes _ _ _ _ _ _ start blocks h ∙ skip 3 _ _ _ (ne_eqb k 0 z) none_left
 
   pub adding_then : (rows : List Row) → first_of (adding_rows rows) ≡ behind (adding_verdict q k) rows
   unfolding adding_verdict
   adding_then rows = first_then (adding_rows []) rows
-
-  pub adding_zero : row_number (adding_verdict q k) ≡ 0 → adding_verdict q k ≡ accepted
-  unfolding adding_verdict
-  adding_zero = zero_accepts (adding_rows []) refl
 
   -- what is added to begins where the entry says, and lies inside n
   pub record Added : Type 0 where

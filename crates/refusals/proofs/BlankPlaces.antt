@@ -1,14 +1,13 @@
 -- The place that goes with 9 is the lowest blank place of the sheet (document 02 (d)): a place of the sheet that is blank, and
 -- no lower one is.
 -- Assumes nothing.
+use Rattle.std.specs.Prelude.{Option, Some, None}
 use mathlib.Core.Path.{◌≡◌, refl, sym, ap, ◌∙◌}
 use mathlib.Core.Logic.{◌⊎◌, inl, inr}
 use mathlib.Core.Bool.{Bool, true, false, not, true≢false}
 use Prim.Native.Nat.{ℕ, ◌+◌, ◌<◌}
 use native.Mathlib.Omega.{arith}
 use Rattle.map_blocks.specs.Blocks.{free, all, least}
-use Rattle.map_blocks.specs.declared.Found.{Found}
-use Rattle.map_blocks.specs.declared.Found.TheVariants.{At, Nothing}
 use Rattle.map_blocks.proofs.Least.{least_passes, least_below, none_passes}
 use Rattle.map_blocks.proofs.Runs.{all_intro}
 use Rattle.blocks_of_card.specs.Card.{block_of}
@@ -32,16 +31,16 @@ pub record Lowest (test : ℕ → Bool) (m p : ℕ) : Type 0 where
   pub none_below : (t : ℕ) → t < p → test t ≡ false
 
 -- where not every number fails the test, the least that passes it is the lowest
-found : (test : ℕ → Bool) (m : ℕ) (r : Found) → least test 0 m ≡ r → all (λ p. not (test p)) 0 m ≡ false
+found : (test : ℕ → Bool) (m : ℕ) (r : Option ℕ) → least test 0 m ≡ r → all (λ p. not (test p)) 0 m ≡ false
     → Lowest test m (start_at r)
-found test m (At p) e some =
+found test m (Some p) e some =
     let passed = least_passes test 0 m p e in
     record {
       inside = omega (arith, passed.high);
       passes = passed.test;
       none_below = λ t l. least_below test 0 m p e t (omega arith) l;
     }
-found test m Nothing e some =
+found test m None e some =
     absurd (true≢false (sym (all_intro (λ p. not (test p)) 0 m (λ p a b. ap not (none_passes test 0 m e p a b))) ∙ some))
 
 -- row 9 holds: of any view, the program's as well as the ledger's

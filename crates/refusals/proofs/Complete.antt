@@ -1,65 +1,56 @@
 -- What the rows of complete and its effects say: the verdict in each case, and what the call then hands back and leaves.
 -- Assumes nothing.
+use Rattle.std.specs.Prelude.{Ok, Err}
+use Rattle.catalogue_standings.specs.Refusals.{number}
+use Rattle.catalogue_standings.specs.declared.Refusal.{Refusal}
+use Rattle.catalogue_standings.specs.declared.Refusal.TheVariants as why-refused
 use mathlib.Core.Path.{◌≡◌, refl, sym, ap, ◌∙◌}
-use mathlib.Core.Bool.{Bool, true, false, not, ◌||◌, cond}
+use mathlib.Core.Bool.{Bool, false, not, ◌||◌, cond}
 use mathlib.Core.List.{List, [], ◌∷◌}
 use Prim.Native.Nat.{ℕ, ◌+◌}
-use native.Mathlib.Omega.{arith}
-use lib.Dec.{eqb, leb}
+use lib.Dec.{eqb}
 use Rattle.catalogue.specs.Entries.{complete_mark}
 use Rattle.map_blocks.specs.Blocks.{all, least}
 use Rattle.blocks_of_card.specs.Card.{block_of}
 use Rattle.block_seals.specs.Sealed.{blank, sound}
 use Rattle.refusals.specs.Effects.{entry_of, out_of, refusal_out, complete_verdict, blank_place, complete_out}
 use Rattle.catalogue_standings.specs.Searches.{start_at}
-use Rattle.catalogue_standings.specs.Openings.{opened_of, opened_for, unless_damaged, row_of}
+use Rattle.catalogue_standings.specs.Openings.{row_of}
 use Rattle.catalogue_standings.specs.Rows.{Row, row, Verdict, refused, first_of, settle}
 use Rattle.catalogue_standings.specs.Standings.{length_of}
 use Rattle.refusals.specs.Table.{lowest_blank, table_of}
 use Rattle.refusals.specs.Views.{view_on}
 use Rattle.catalogue_standings.specs.declared.Answer.TheVariants as answer
-use Rattle.catalogue_standings.specs.declared.Opened.TheVariants.{Refused, Stands}
 use Rattle.refusals.specs.declared.Out.{Out}
 use Rattle.catalogue_standings.specs.declared.Standing.{Standing}
-use Rattle.catalogue_standings.specs.declared.Standing.TheVariants.{Absent, Paused, PausedWith, Open, Complete, Damaged}
+use Rattle.catalogue_standings.specs.declared.Standing.TheVariants.{Open}
 use Rattle.refusals.proofs.Admitted.{open_else, open_passes}
 use Rattle.refusals.specs.Lent.{Lent}
 use Rattle.refusals.proofs.Lent.{all_fits, standing, first, extent}
 use Rattle.catalogue_standings.proofs.Openings.{NotOpen, closed, opened}
 
--- ---- no row but the last is 9
+-- ---- 9 goes with a place, and is no refusal alone
 
-pub opening_row : (turned fits : Bool) (c sheet : ℕ) (s : Standing) (number : ℕ)
-    → opened_for turned fits c sheet s ≡ Refused number → eqb number 9 ≡ false
-unfolding opened_of
-opening_row turned fits c sheet s number e = go turned fits (leb c sheet) s e
-  where
-    is : (row : ℕ) → eqb row 9 ≡ false → Refused row ≡ Refused number → eqb number 9 ≡ false
-    is row f e = let same : row ≡ number = cc in ap (λ (k : ℕ). eqb k 9) (sym same) ∙ f
-
-    never : (s : Standing) → Stands s ≡ Refused number → ⊥
-    never s e = let z : ◌≡◌ {A = ℕ} 0 1 = cc in omega arith
-
-    go : (turned fits late : Bool) (s : Standing)
-        → cond turned (Refused 21) (cond fits (cond late (Refused 2) (unless_damaged s)) (Refused 1)) ≡ Refused number
-        → eqb number 9 ≡ false
-    go true fits late s e = is 21 refl e
-    go false false late s e = is 1 refl e
-    go false true true s e = is 2 refl e
-    go false true false Absent e = absurd (never Absent e)
-    go false true false Paused e = absurd (never Paused e)
-    go false true false (PausedWith a b) e = absurd (never (PausedWith a b) e)
-    go false true false (Open a b) e = absurd (never (Open a b) e)
-    go false true false (Complete a b) e = absurd (never (Complete a b) e)
-    go false true false Damaged e = is 4 refl e
-
-pub standing_row : (s : Standing) → eqb (row_of s) 9 ≡ false
-standing_row Absent = refl
-standing_row Paused = refl
-standing_row (PausedWith a b) = refl
-standing_row (Open a b) = refl
-standing_row (Complete a b) = refl
-standing_row Damaged = refl
+pub not_nine : (why : Refusal) → eqb (number why) 9 ≡ false
+not_nine why-refused.Misfit = refl
+not_nine why-refused.NoSuchSheet = refl
+not_nine why-refused.WrongLength = refl
+not_nine why-refused.Damaged = refl
+not_nine why-refused.IsAbsent = refl
+not_nine why-refused.IsPaused = refl
+not_nine why-refused.IsOpen = refl
+not_nine why-refused.IsComplete = refl
+not_nine why-refused.NoFit = refl
+not_nine why-refused.NotFreeBehind = refl
+not_nine why-refused.ImageLength = refl
+not_nine why-refused.ImageFrame = refl
+not_nine why-refused.ImageContent = refl
+not_nine why-refused.WrongFigures = refl
+not_nine why-refused.RunTaken = refl
+not_nine why-refused.OverShare = refl
+not_nine why-refused.NoDate = refl
+not_nine why-refused.OutsideTerm = refl
+not_nine why-refused.TurnedAway = refl
 
 module _ (q : Lent) where
   abbrev pub verdict : Verdict
@@ -85,11 +76,11 @@ module _ (q : Lent) where
       made ∙ ap (λ (b : Bool). out_of q.spare q.entry (cond b (answer.Blank lowest) (answer.Refused number))) (sym f)
       ∙ out (refused number) h
 
-  pub shut : (number : ℕ) → first q ≡ Refused number → verdict ≡ refused number
+  pub shut : (why : Refusal) → first q ≡ Err why → verdict ≡ refused (number why)
   unfolding complete_verdict view_on table_of
-  shut number h = closed _ _ _ _ _ _ number h
+  shut why h = closed _ _ _ _ _ _ why h
 
-  pub other : (s : Standing) → first q ≡ Stands s → NotOpen s → verdict ≡ refused (row_of s)
+  pub other : (s : Standing) → first q ≡ Ok s → NotOpen s → verdict ≡ refused (row_of s)
   unfolding complete_verdict view_on table_of
   other s h differs = open_else _ _ _ _ _ _ s h differs
 
@@ -105,7 +96,7 @@ module _ (q : Lent) where
       row 4 (not (all (λ p. blank_at start p || sound_at start p) 0 blocks))
       ∷ row 9 (not (all (λ p. not (blank_at start p)) 0 blocks)) ∷ []
 
-  module _ (start blocks : ℕ) (opens : first q ≡ Stands (Open start blocks)) where
+  module _ (start blocks : ℕ) (opens : first q ≡ Ok (Open start blocks)) where
     pub admitted : verdict ≡ first_of (rest start blocks)
     unfolding complete_verdict view_on table_of
     admitted =

@@ -1,21 +1,22 @@
 -- Row 1 for a summary that guides a call: the test of its length, which is made before any other, and what it leaves to the
 -- tests behind it.
 -- Assumes nothing.
+use Rattle.catalogue_standings.specs.declared.Standing.{Standing}
+use Rattle.catalogue_standings.specs.declared.Refusal.{Refusal}
+use Rattle.std.specs.Prelude.{Result}
 use mathlib.Core.Path.{◌≡◌, refl, sym, ap, ◌∙◌}
 use mathlib.Core.Bool.{Bool, true, false, ◌&&◌}
 use native.Mathlib.Omega.{arith}
-use lib.Dec.{leb}
+use lib.Dec.{eqb, leb}
+use Rattle.summary.specs.Summary.{summary_length}
 use lib.ListN.{length}
 use borrow.Author.Tests.{le-leb}
-use Rattle.laws.proofs.Bools.{and_left, and_right, and_both, not_true, clash}
 use Rattle.catalogue_standings.specs.Limits.{shape_fits, sheets_fit}
-use Rattle.catalogue_standings.specs.Openings.{opened_of, opened_for}
-use Rattle.catalogue_standings.specs.declared.Opened.{Opened}
-use Rattle.catalogue_standings.specs.declared.Opened.TheVariants.{Refused}
-use Rattle.catalogue_standings.proofs.Limits.{Fits}
+use Rattle.catalogue_standings.specs.Openings.{opened_for}
+use Rattle.catalogue_standings.proofs.Limits.{Fits, card_fits, sheet_fits}
 use Rattle.refusals.specs.Guides.{guide_fits, guide_tested}
 use Rattle.refusals.specs.Lent.{Lent}
-use Rattle.refusals.proofs.Lent.{lengths_fit, all_fits, first, sized, all_fits_at, first_at, sized_at, standing}
+use Rattle.refusals.proofs.Lent.{lengths_fit, first, first_at, standing}
 
 module _ (q : Lent) where
   abbrev guides : Bool
@@ -28,56 +29,46 @@ module _ (q : Lent) where
   few_words : Fits q.n q.spare (length q.map) → leb (length q.map) 4096 ≡ true
   few_words f = le-leb (length q.map) 4096 (omega (arith, f.words, f.limit))
 
-  test_holds : leb (length q.map) 4096 ≡ true → guides ≡ true → guide_test ≡ true
-  test_holds few e = go q.guided e
+  -- of a map that has no more, the test says what row 1 asks
+  same_test : leb (length q.map) 4096 ≡ true → guide_test ≡ guides
+  same_test few = go q.guided
     where
-      go : (guided : Bool) → guide_fits guided q.summary (length q.map) ≡ true
-          → guide_tested guided (length q.map) (length q.summary) ≡ true
-      go true e = and_both (leb (length q.map) 4096) _ few e
-      go false e = refl
+      go : (guided : Bool) → guide_tested guided (length q.map) (length q.summary) ≡ guide_fits guided q.summary (length q.map)
+      go true = ap (λ (x : Bool). x && eqb (length q.summary) (summary_length (length q.map))) few
+      go false = refl
 
-  guides_so : guide_test ≡ true → guides ≡ true
-  guides_so e = go q.guided e
+  -- and so does the test before the other lengths, whatever they are
+  same_fits : (lengths : Bool) → (lengths ≡ true → leb (length q.map) 4096 ≡ true) → (guide_test && lengths)
+      ≡ (guides && lengths)
+  same_fits true few = ap (λ (x : Bool). x && true) (same_test (few refl))
+  same_fits false few = none guide_test guides
     where
-      go : (guided : Bool) → guide_tested guided (length q.map) (length q.summary) ≡ true
-          → guide_fits guided q.summary (length q.map) ≡ true
-      go true e = and_right (leb (length q.map) 4096) _ e
-      go false e = refl
+      none : (x y : Bool) → (x && false) ≡ (y && false)
+      none true true = refl
+      none true false = refl
+      none false true = refl
+      none false false = refl
 
-  -- where the test fails, row 1 holds; where it passes, the tests behind it decide
-  pub guide_shut : q.turned ≡ false → guide_test ≡ false → first q ≡ Refused 1
-  unfolding opened_of
-  guide_shut may e =
-      ap (λ (t : Bool). opened_for t (all_fits q) q.sheets q.sheet (standing q)) may
-      ∙ ap (λ (x : Bool). opened_of x q.sheets q.sheet (standing q))
-      (not_true (all_fits q)
-      (λ h. clash guide_test (test_holds (few_words (sized q h).shape) (and_left guides (lengths_fit q) h)) e))
+  -- what a call begins with: what it is lent, and with the card
+  pub begun : opened_for q.turned (guide_test && lengths_fit q) q.sheets q.sheet (standing q) ≡ first q
+  begun =
+      ap (λ (fits : Bool). opened_for q.turned fits q.sheets q.sheet (standing q)) (same_fits (lengths_fit q)
+      (λ h. few_words (card_fits q.n q.spare (length q.map) q.sheets (length q.card) h).shape))
 
-  pub guide_open : (r : Opened) → q.turned ≡ false → guide_test ≡ true → r ≡ opened_of (lengths_fit q) q.sheets q.sheet
+  pub begun_at : opened_for q.turned (guide_test && (shape_fits q.n q.spare (length q.map) && sheets_fit q.sheets)) q.sheets
+      q.sheet (standing q) ≡ first_at q
+  begun_at =
+      ap (λ (fits : Bool). opened_for q.turned fits q.sheets q.sheet (standing q))
+      (same_fits (shape_fits q.n q.spare (length q.map) && sheets_fit q.sheets)
+      (λ h. few_words (sheet_fits q.n q.spare (length q.map) q.sheets h)))
+
+  -- so what the opening answered is what those rows answer
+  pub first_is : {r s : Result Standing Refusal}
+      → r ≡ opened_for q.turned (guide_test && lengths_fit q) q.sheets q.sheet (standing q) → r ≡ s → first q ≡ s
+  first_is asked told = sym begun ∙ sym asked ∙ told
+
+  pub first_is_at : {r s : Result Standing Refusal}
+      → r ≡ opened_for q.turned (guide_test && (shape_fits q.n q.spare (length q.map) && sheets_fit q.sheets)) q.sheets q.sheet
       (standing q)
-      → r ≡ first q
-  guide_open r may e h =
-      h ∙ ap (λ (x : Bool). opened_of (x && lengths_fit q) q.sheets q.sheet (standing q)) (sym (guides_so e))
-      ∙ sym (ap (λ (t : Bool). opened_for t (all_fits q) q.sheets q.sheet (standing q)) may)
-
-  -- the same of a call that is not lent the card
-  pub guide_shut_at : q.turned ≡ false → guide_test ≡ false → first_at q ≡ Refused 1
-  unfolding opened_of
-  guide_shut_at may e =
-      ap (λ (t : Bool). opened_for t (all_fits_at q) q.sheets q.sheet (standing q)) may
-      ∙ ap (λ (x : Bool). opened_of x q.sheets q.sheet (standing q))
-      (not_true (all_fits_at q)
-      (λ h. clash guide_test (test_holds (few_words (sized_at q h)) (and_left guides _ h)) e))
-
-  pub guide_open_at : (r : Opened) → q.turned ≡ false → guide_test ≡ true
-      → r ≡ opened_of (shape_fits q.n q.spare (length q.map) && sheets_fit q.sheets) q.sheets q.sheet
-      (standing q)
-      → r ≡ first_at q
-  guide_open_at r may e h =
-      h ∙ ap (λ (x : Bool). opened_of (x && (shape_fits q.n q.spare (length q.map) && sheets_fit q.sheets)) q.sheets
-      q.sheet (standing q)) (sym (guides_so e))
-      ∙ sym (ap (λ (t : Bool). opened_for t (all_fits_at q) q.sheets q.sheet (standing q)) may)
-
-  -- what guides an accepted call has its length
-  pub guided_so : guide_test ≡ true → guide_fits q.guided q.summary (length q.map) ≡ true
-  guided_so e = guides_so e
+      → r ≡ s → first_at q ≡ s
+  first_is_at asked told = sym begun_at ∙ sym asked ∙ told

@@ -1,6 +1,8 @@
 -- What the rows that a call begins with say of what it is lent, with the card.
 -- Assumes nothing.
-use mathlib.Core.Path.{◌≡◌, sym, ap, ◌∙◌}
+use Rattle.std.specs.Prelude.{Result, Ok}
+use Rattle.catalogue_standings.specs.declared.Refusal.{Refusal}
+use mathlib.Core.Path.{◌≡◌}
 use mathlib.Core.Bool.{Bool, true, false, ◌&&◌}
 use mathlib.Core.List.{List, []}
 use Prim.Native.Nat.{ℕ, ◌*◌, ◌<◌}
@@ -16,8 +18,6 @@ use Rattle.catalogue_standings.specs.Openings.{opened_for}
 use Rattle.catalogue_standings.specs.Rows.{Row}
 use Rattle.catalogue_standings.specs.Standings.{standing_of}
 use Rattle.catalogue_standings.specs.Limits.{shape_fits, sheets_fit}
-use Rattle.catalogue_standings.specs.declared.Opened.{Opened}
-use Rattle.catalogue_standings.specs.declared.Opened.TheVariants.{Refused, Stands}
 use Rattle.catalogue_standings.specs.declared.Standing.{Standing}
 use Rattle.catalogue_standings.specs.declared.Standing.TheVariants.{Open}
 use Rattle.catalogue_standings.proofs.Limits.{Fits, sheet_fits, CardFits, card_fits}
@@ -40,7 +40,7 @@ module _ (q : Lent) where
   standing = standing_of q.n (free q.map) q.entry
 
   -- what the rows that the call begins with answer
-  abbrev pub first : Opened
+  abbrev pub first : Result Standing Refusal
   first = opened_for q.turned all_fits q.sheets q.sheet standing
 
   pub sized : all_fits ≡ true → Sized q
@@ -63,15 +63,15 @@ module _ (q : Lent) where
       guide_fits q.guided q.summary (length q.map)
       && (shape_fits q.n q.spare (length q.map) && sheets_fit q.sheets)
 
-  abbrev pub first_at : Opened
+  abbrev pub first_at : Result Standing Refusal
   first_at = opened_for q.turned all_fits_at q.sheets q.sheet standing
 
   -- what an opening says of what is lent
-  pub opens : (s : Standing) (rows : List Row) → first ≡ Stands s
+  pub opens : (s : Standing) (rows : List Row) → first ≡ Ok s
       → Opening q.turned all_fits q.sheets q.sheet standing s rows
   opens s rows h = opened q.turned all_fits q.sheets q.sheet standing s rows h
 
-  pub opens_at : (s : Standing) (rows : List Row) → first_at ≡ Stands s
+  pub opens_at : (s : Standing) (rows : List Row) → first_at ≡ Ok s
       → Opening q.turned all_fits_at q.sheets q.sheet standing s rows
   opens_at s rows h = opened q.turned all_fits_at q.sheets q.sheet standing s rows h
 
@@ -80,16 +80,10 @@ module _ (q : Lent) where
       sheet_fits q.n q.spare (length q.map) q.sheets
       (and_right (guide_fits q.guided q.summary (length q.map)) _ e)
 
-  pub refused_first : (r : Opened) (number : ℕ) → r ≡ first → r ≡ Refused number → first ≡ Refused number
-  refused_first r number asked told = sym asked ∙ told
-
-  pub stands_first : (r : Opened) (s t : Standing) → r ≡ first → r ≡ Stands s → s ≡ t → first ≡ Stands t
-  stands_first r s t asked told same = sym asked ∙ told ∙ ap Stands same
-
-  pub limits : (s : Standing) → first ≡ Stands s → Sized q
+  pub limits : (s : Standing) → first ≡ Ok s → Sized q
   limits s h = sized (opens s [] h).all_fits_lem
 
-  pub extent : (start blocks : ℕ) → first ≡ Stands (Open start blocks) → Extent q.n (free q.map) q.entry start blocks
+  pub extent : (start blocks : ℕ) → first ≡ Ok (Open start blocks) → Extent q.n (free q.map) q.entry start blocks
   extent start blocks h =
       open_extent q.n (free q.map) q.entry start blocks
       (opens (Open start blocks) [] h).same

@@ -1,14 +1,15 @@
 -- A call that changes the mark of an entry and no more hands back what its rows say: those behind the opening refuse just the
 -- standings that it does not admit, each with its own row.
 -- Assumes nothing.
+use Rattle.std.specs.Prelude.{Ok, Err}
+use Rattle.catalogue_standings.specs.Refusals.{number}
+use Rattle.catalogue_standings.specs.declared.Refusal.{Refusal}
 use mathlib.Core.Path.{◌≡◌, refl, sym, ap, ◌∙◌}
 use mathlib.Core.Bool.{Bool, true, false, not, ◌||◌, cond, true≢false}
 use Rattle.catalogue_standings.specs.Openings.{row_of}
 use Rattle.catalogue_standings.specs.Rows.{Verdict, accepted, refused, first_of, settle}
 use Rattle.catalogue_standings.specs.Standings.{is_damaged}
 use Rattle.catalogue_standings.specs.declared.Answer.TheVariants.{Done}
-use Rattle.catalogue_standings.specs.declared.Opened.{Opened}
-use Rattle.catalogue_standings.specs.declared.Opened.TheVariants.{Refused, Stands}
 use Rattle.catalogue_standings.specs.declared.Standing.{Standing}
 use Rattle.catalogue_standings.specs.declared.Standing.TheVariants.{Absent, Paused, PausedWith, Open, Complete, Damaged}
 use Rattle.catalogue_standings.proofs.Rows.{not_refused}
@@ -16,11 +17,9 @@ use Rattle.catalogue_standings.proofs.Openings.{closed, opened}
 use Rattle.refusals.proofs.Lent.{first_at}
 use Rattle.refusals.specs.Effects.{entry_of, out_of, refusal_out, change_verdict, change_out}
 use Rattle.refusals.specs.Lent.{Lent}
-use Rattle.refusals.specs.Marks.{is_admitted, admitted_of, mark_out}
-use Rattle.refusals.specs.Table.{View, Change, change, admits_of, mark_after, refusing, on, rows_for, table_of, verdict_of}
+use Rattle.refusals.specs.Marks.{is_admitted}
+use Rattle.refusals.specs.Table.{View, Admits, Change, admits_of, mark_after, refusing, rows_for, table_of}
 use Rattle.refusals.specs.Views.{view_at}
-use Rattle.refusals.specs.declared.Admits.{Admits}
-use Rattle.refusals.specs.declared.Out.{Out}
 
 -- the rows refuse what is not admitted, each standing with its own row
 pub refuses : (a : Admits) (v : View) (s : Standing) → v.stands ≡ s → is_damaged s ≡ false
@@ -62,35 +61,24 @@ admitted a v whole h = go (is_admitted a v.stands) (sym (refuses a v v.stands re
     go true e = refl
     go false e = absurd (not_refused _ e)
 
-abbrev verdict_in : Opened → Verdict
-verdict_in (Refused number) = refused number
-verdict_in (Stands s) = accepted
-
+-- the verdict, where the first rows refuse, and where they leave a standing, which is admitted or not
 module _ (q : Lent) (c : Change) where
-  ruled : (o : Opened) → first_at q ≡ o → verdict_of (view_at q) (on q.sheet (change c))
-      ≡ verdict_in (admitted_of (admits_of c) o)
-  unfolding view_at table_of rows_for
-  ruled (Refused number) e = closed _ _ _ _ _ _ number e
-  ruled (Stands s) e =
+  pub shut : (why : Refusal) → first_at q ≡ Err why → change_verdict q c ≡ refused (number why)
+  unfolding change_verdict view_at table_of rows_for
+  shut why e = closed _ _ _ _ _ _ why e
+
+  pub stands : (s : Standing) → first_at q ≡ Ok s
+      → change_verdict q c ≡ cond (is_admitted (admits_of c) s) accepted (refused (row_of s))
+  unfolding change_verdict view_at table_of rows_for
+  stands s e =
       let x = opened _ _ _ _ _ s _ e in
       x.verdict ∙ refuses (admits_of c) (view_at q) s x.same (ap is_damaged (sym x.same) ∙ x.whole)
-      ∙ told (is_admitted (admits_of c) s)
-    where
-      told : (b : Bool) → cond b accepted (refused (row_of s)) ≡ verdict_in (cond b (Stands s) (Refused (row_of s)))
-      told true = refl
-      told false = refl
 
-  abbrev done : Out
-  done = out_of q.spare (entry_of (mark_after c) q.entry.start q.entry.length) Done
-
-  handed : (o : Opened) → mark_out q.spare q.entry o (mark_after c)
-      ≡ settle (verdict_in o) done (refusal_out q.spare q.entry)
-  handed (Refused number) = refl
-  handed (Stands s) = refl
-
-  pub changes : {o p : Opened} {r : Out} → o ≡ first_at q → p ≡ admitted_of (admits_of c) o
-      → r ≡ mark_out q.spare q.entry p (mark_after c) → r ≡ change_out q c
-  unfolding change_out change_verdict
-  changes {o} given let-in made =
-      made ∙ ap (λ (p : Opened). mark_out q.spare q.entry p (mark_after c)) let-in ∙ handed (admitted_of (admits_of c) o)
-      ∙ ap (λ (v : Verdict). settle v done (refusal_out q.spare q.entry)) (sym (ruled o (sym given)))
+  -- what is handed back, once the verdict is known
+  pub changed : {v : Verdict} → change_verdict q c ≡ v
+      → settle v (out_of q.spare (entry_of (mark_after c) q.entry.start q.entry.length) Done) (refusal_out q.spare q.entry)
+      ≡ change_out q c
+  unfolding change_out
+  changed h =
+      ap (λ (v : Verdict). settle v (out_of q.spare (entry_of (mark_after c) q.entry.start q.entry.length) Done)
+      (refusal_out q.spare q.entry)) (sym h)

@@ -1,15 +1,14 @@
 -- The figures of a reserve: what row 15 says of them, and that a fit within them is a fit of the card.
 -- Assumes nothing.
+use Rattle.std.specs.Prelude.{Option, Some, None}
 use mathlib.Core.Path.{◌≡◌, refl}
 use mathlib.Core.Bool.{Bool, true, false, ◌||◌, true≢false}
 use mathlib.Core.List.{List}
 use Prim.Native.Nat.{ℕ, ◌+◌, ◌≤◌, ◌<◌}
 use native.Mathlib.Omega.{arith}
 use lib.Dec.{eqb, leb, ltb}
-use borrow.Author.Tests.{eq-eqb, ne_eqb, eqb-false, le-leb, lt-leb, leb-false, ltb-false}
+use borrow.Author.Tests.{eqb-false, leb-false, ltb-false}
 use Rattle.map_blocks.specs.Blocks.{free, fit, least_fit}
-use Rattle.map_blocks.specs.declared.Found.{Found}
-use Rattle.map_blocks.specs.declared.Found.TheVariants.{At, Nothing}
 use Rattle.map_blocks.proofs.Fits.{fit_is, is_fit, on_one}
 use Rattle.map_blocks.proofs.Least.{least_passes}
 use Rattle.catalogue_standings.specs.Searches.{none, start_at}
@@ -34,17 +33,6 @@ figured n g e =
       inside = ltb-false n g.before (neither_right (eqb g.step 0 || leb g.before g.from) _ e);
     }
 
--- the row, test by test
-module _ (n : ℕ) (g : Figures) where
-  pub no_step : g.step ≡ 0 → misfigured n g ≡ true
-  no_step e = simp (eq-eqb g.step 0 e)
-
-  pub no_window : (g.step ≡ 0 → ⊥) → g.before ≤ g.from → misfigured n g ≡ true
-  no_window s l = simp (ne_eqb g.step 0 s, le-leb g.before g.from l)
-
-  pub by_end : (g.step ≡ 0 → ⊥) → g.from < g.before → misfigured n g ≡ ltb n g.before
-  by_end s l = simp (ne_eqb g.step 0 s, lt-leb g.before g.from l)
-
 -- a fit within figures that lie inside the card is a fit of the card
 pub plain_fit : (f : ℕ → Bool) (n : ℕ) (g : Figures) (k s : ℕ) → g.before ≤ n → fit_within f g k s ≡ true
     → fit f 0 n 1 k s ≡ true
@@ -53,9 +41,9 @@ plain_fit f n g k s l e =
     let high : s + k ≤ g.before = h.high in
     is_fit f 0 n 1 k s (record { low = omega arith; high = omega arith; free = h.free; placed = on_one s })
 
-is_found : (o : Found) → none o ≡ false → o ≡ At (start_at o)
-is_found (At s) e = refl
-is_found Nothing e = absurd (true≢false e)
+is_found : (o : Option ℕ) → none o ≡ false → o ≡ Some (start_at o)
+is_found (Some s) e = refl
+is_found None e = absurd (true≢false e)
 
 -- the least fit is a fit, where one was found
 pub least_fits : (f : ℕ → Bool) (g : Figures) (k : ℕ) → none (least_within f g k) ≡ false

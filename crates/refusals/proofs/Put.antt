@@ -1,5 +1,8 @@
 -- What the rows of put and its effects say: the verdict in each case, and what the call then hands back and leaves.
 -- Assumes nothing.
+use Rattle.std.specs.Prelude.{Result, Ok, Err}
+use Rattle.catalogue_standings.specs.Refusals.{number}
+use Rattle.catalogue_standings.specs.declared.Refusal.{Refusal}
 use mathlib.Core.Path.{◌≡◌, refl, sym, ap, ◌∙◌, subst}
 use mathlib.Core.List.{List, [], ◌∷◌}
 use Prim.Native.Nat.{ℕ, ◌+◌, ◌*◌, ◌<◌, ◌≤◌}
@@ -16,8 +19,6 @@ use Rattle.refusals.specs.Table.{table_of}
 use Rattle.refusals.specs.Views.{view_on}
 use Rattle.catalogue_standings.specs.declared.Answer.{Answer}
 use Rattle.catalogue_standings.specs.declared.Answer.TheVariants.{Done, Refused}
-use Rattle.catalogue_standings.specs.declared.Opened.{Opened}
-use Rattle.catalogue_standings.specs.declared.Opened.TheVariants as opening
 use Rattle.catalogue_standings.specs.declared.Standing.{Standing}
 use Rattle.catalogue_standings.specs.declared.Standing.TheVariants.{Open}
 use Rattle.catalogue_standings.proofs.Limits.{CardFits}
@@ -48,14 +49,14 @@ module _ (q : Lent) (place : ℕ) (payload : List ℕ) where
   abbrev pub stands : Standing
   stands = standing_of q.n (free q.map) q.entry
 
-  abbrev pub first : Opened
+  abbrev pub first : Result Standing Refusal
   first = lent-laws.first q
 
-  pub shut : {o : Opened} (number : ℕ) → o ≡ first → o ≡ opening.Refused number → verdict ≡ refused number
+  pub shut : {o : Result Standing Refusal} (why : Refusal) → o ≡ first → o ≡ Err why → verdict ≡ refused (number why)
   unfolding put_verdict view_on table_of
-  shut number given told = closed _ _ _ _ _ _ number (sym given ∙ told)
+  shut why given told = closed _ _ _ _ _ _ why (sym given ∙ told)
 
-  pub other : {o : Opened} (s : Standing) → o ≡ first → o ≡ opening.Stands s → NotOpen s
+  pub other : {o : Result Standing Refusal} (s : Standing) → o ≡ first → o ≡ Ok s → NotOpen s
       → verdict ≡ refused (row_of s)
   unfolding put_verdict view_on table_of
   other s given told differs =
@@ -64,7 +65,7 @@ module _ (q : Lent) (place : ℕ) (payload : List ℕ) where
       ∙ not_open stands _ (subst NotOpen (sym x.same) differs) x.whole
       ∙ ap (λ (t : Standing). refused (row_of t)) x.same
 
-  module _ (start blocks : ℕ) {o : Opened} (given : o ≡ first) (told : o ≡ opening.Stands (Open start blocks)) where
+  module _ (start blocks : ℕ) {o : Result Standing Refusal} (given : o ≡ first) (told : o ≡ Ok (Open start blocks)) where
     pub limits : CardFits q.n q.spare (length q.map) (length q.card)
     limits = lent-laws.sized q (lent-laws.opens q (Open start blocks) [] (sym given ∙ told)).all_fits_lem
 

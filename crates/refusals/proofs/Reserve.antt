@@ -1,13 +1,12 @@
 -- What the rows of reserve and its effects say: the verdict in each case, and what the call then hands back and leaves.
 -- Assumes nothing.
+use Rattle.std.specs.Prelude.{Option, Some, None}
 use mathlib.Core.Path.{◌≡◌, refl, sym, ap, ◌∙◌}
 use mathlib.Core.List.{List, [], ◌∷◌}
 use Prim.Native.Nat.{ℕ, ◌≤◌, ◌<◌}
 use borrow.Author.Tests.{lt-ltb, le-ltb}
 use lib.Dec.{ltb}
-use Rattle.map_blocks.specs.declared.Found.{Found}
 use Rattle.catalogue_wings.specs.Wings.{wing_of}
-use Rattle.map_blocks.specs.declared.Found.TheVariants.{At, Nothing}
 use Rattle.catalogue_standings.specs.Searches.{start_at, none}
 use Rattle.refusals.specs.Effects.{giving_verdict, unsearched_verdict, reserve_verdict, reserve_start, reserve_out}
 use Rattle.refusals.specs.Effects.{reserve_map, reserve_card, reserve_summary}
@@ -15,11 +14,11 @@ use Rattle.refusals.specs.Guides.{found_by}
 use Rattle.refusals.specs.Placement.{Placement, plain, placed, figures, figures_in, misfigured}
 use Rattle.refusals.specs.Shares.{over_limit}
 use Rattle.refusals.specs.declared.Figures.{Figures}
-use Rattle.catalogue_standings.specs.Rows.{Row, row, Verdict, accepted, refused, first_of, before, row_number}
-use Rattle.catalogue_standings.proofs.Rows.{clear, onwards, before_then, both_accept, zero_accepts}
+use Rattle.catalogue_standings.specs.Rows.{Row, row, Verdict, accepted, refused, first_of, before}
+use Rattle.catalogue_standings.proofs.Rows.{clear, onwards, before_then, both_accept}
 use Rattle.refusals.specs.Table.{on, reserve, table_of}
 use Rattle.refusals.specs.Views.{view_on}
-use Rattle.refusals.proofs.Beginnings.{behind, giving_rows, giving_then}
+use Rattle.refusals.proofs.Beginnings.{behind, giving_then}
 use Rattle.refusals.specs.Lent.{Lent}
 use Rattle.catalogue_standings.proofs.Openings.{skip, stop, none_left}
 use Rattle.refusals.proofs.Taken.{Leaves}
@@ -33,7 +32,7 @@ module _ (q : Lent) (k : ℕ) (p : Placement) where
   abbrev pub figured : Figures
   figured = figures_in q.n p
 
-  abbrev pub found : Found
+  abbrev pub found : Option ℕ
   found = found_by q.guided q.summary q.map figured k
 
   -- the limit of the sheet's wing is passed
@@ -47,10 +46,6 @@ module _ (q : Lent) (k : ℕ) (p : Placement) where
   pub unsearched_behind : unsearched_verdict q k p ≡ behind (giving_verdict q k) own
   unfolding unsearched_verdict view_on before table_of
   unsearched_behind = giving_then q k own
-
-  pub unsearched_zero : row_number (unsearched_verdict q k p) ≡ 0 → unsearched_verdict q k p ≡ accepted
-  unfolding unsearched_verdict view_on before table_of
-  unsearched_zero = zero_accepts (giving_rows q k own) refl
 
   -- a reserve that comes to its search
   pub record Passed : Type 0 where
@@ -71,13 +66,13 @@ module _ (q : Lent) (k : ℕ) (p : Placement) where
   unfolding reserve_verdict unsearched_verdict view_on before onwards table_of
   verdict_behind = before_then 10 (table_of (view_of q) (on q.sheet (reserve q.limits k p)))
 
-  pub no_fit : found ≡ Nothing → first_of searching ≡ refused 10
+  pub no_fit : found ≡ None → first_of searching ≡ refused 10
   no_fit f = stop 10 _ _ (ap none f)
 
-  pub too_few : (s : ℕ) → found ≡ At s → q.spare < k → first_of searching ≡ refused 4
+  pub too_few : (s : ℕ) → found ≡ Some s → q.spare < k → first_of searching ≡ refused 4
   too_few s f l = skip 10 _ _ _ (ap none f) (stop 4 _ _ (lt-ltb q.spare k l))
 
-  pub passes : (s : ℕ) → found ≡ At s → k ≤ q.spare → first_of searching ≡ accepted
+  pub passes : (s : ℕ) → found ≡ Some s → k ≤ q.spare → first_of searching ≡ accepted
   passes s f l = skip 10 _ _ _ (ap none f) (skip 4 _ _ _ (le-ltb q.spare k l) none_left)
 
   -- the verdict, where a row before the search holds, and where none does
@@ -87,7 +82,7 @@ module _ (q : Lent) (k : ℕ) (p : Placement) where
   pub searched : (v : Verdict) → unsearched_verdict q k p ≡ accepted → first_of searching ≡ v → reserve_verdict_on q k p ≡ v
   searched v h last = verdict_behind ∙ ap (λ (w : Verdict). behind w searching) h ∙ last
 
-  pub starts : (s : ℕ) → found ≡ At s → s ≡ reserve_start_on q k p
+  pub starts : (s : ℕ) → found ≡ Some s → s ≡ reserve_start_on q k p
   unfolding reserve_start
   starts s f = sym (ap start_at f)
 

@@ -1,16 +1,14 @@
 -- What comes of the verdict of show: one of the first rows refuses it, or the block of the place decides.
 -- Assumes nothing.
-use mathlib.Core.Path.{◌≡◌, refl, sym, ap, ◌∙◌}
+use mathlib.Core.Path.{◌≡◌, sym, ap, ◌∙◌}
 use mathlib.Core.Bool.{Bool, true, false, not}
 use mathlib.Core.List.{List, [], ◌∷◌}
 use Prim.Native.Nat.{ℕ, ◌+◌}
 use Rattle.blocks_of_card.specs.Card.{block_of}
 use Rattle.block_seals.specs.Sealed.{sound}
-use Rattle.catalogue_standings.specs.Rows.{row, Verdict, accepted, refused, row_number}
+use Rattle.catalogue_standings.specs.Rows.{row, Verdict, accepted, refused}
 use Rattle.catalogue_standings.specs.declared.Answer.{Answer}
-use Rattle.catalogue_standings.specs.declared.Answer.TheVariants.{Refused}
 use Rattle.catalogue_standings.proofs.Openings.{skip, stop, none_left}
-use Rattle.catalogue_standings.proofs.Rows.{other_row}
 use Rattle.refusals.specs.Effects.{showing_verdict, block_verdict, shown_answer, shown_buffer}
 use Rattle.refusals.specs.Effects.{show_verdict, show_answer, show_buffer}
 use Rattle.refusals.specs.Lent.{Lent}
@@ -51,22 +49,24 @@ module _ (q : Lent) (place : ℕ) (buffer : List ℕ) where
   verdict_behind = showing_then q place buffer (row 4 (not (sound_at q place)) ∷ [])
 
   -- one of the first rows holds
-  pub by_first : (number : ℕ) → number ≡ row_number (showing_verdict q place buffer) → (number ≡ 0 → ⊥)
-      → (Refused number ≡ show_answer q place buffer) × (buffer ≡ show_buffer q place buffer)
-  unfolding show_answer show_buffer
-  by_first number e some =
-      told (show_verdict q place buffer) (refused number)
-      (verdict_behind ∙ ap (λ (x : Verdict). behind x (row 4 (not (sound_at q place)) ∷ []))
-      (other_row (showing_verdict q place buffer) number e some))
-      (block_at q place) buffer (Refused number) buffer refl refl
+  pub by_first : (number : ℕ) → showing_verdict q place buffer ≡ refused number → show_verdict q place buffer ≡ refused number
+  by_first number h = verdict_behind ∙ ap (λ (x : Verdict). behind x (row 4 (not (sound_at q place)) ∷ [])) h
 
   -- none of them does
-  pub by_block : showing_verdict q place buffer ≡ accepted → (r : Answer) (after : List ℕ)
-      → r ≡ shown_answer (block_verdict (sound_at q place))
-      → after ≡ shown_buffer (block_verdict (sound_at q place)) (block_at q place) buffer
-      → (r ≡ show_answer q place buffer) × (after ≡ show_buffer q place buffer)
-  unfolding show_answer show_buffer block_verdict
-  by_block opens r after made left =
-      told (show_verdict q place buffer) (block_verdict (sound_at q place))
-      (verdict_behind ∙ ap (λ (x : Verdict). behind x (row 4 (not (sound_at q place)) ∷ [])) opens)
-      (block_at q place) buffer r after made left
+  pub by_block : showing_verdict q place buffer ≡ accepted → show_verdict q place buffer ≡ block_verdict (sound_at q place)
+  unfolding block_verdict
+  by_block opens = verdict_behind ∙ ap (λ (x : Verdict). behind x (row 4 (not (sound_at q place)) ∷ [])) opens
+
+  -- what the buffer holds, and what is answered, once the verdict is known
+  pub left : {v : Verdict} → show_verdict q place buffer ≡ v → shown_buffer v (block_at q place) buffer
+      ≡ show_buffer q place buffer
+  unfolding show_buffer
+  left h = ap (λ (x : Verdict). shown_buffer x (block_at q place) buffer) (sym h)
+
+  pub unchanged : (number : ℕ) → show_verdict q place buffer ≡ refused number → buffer ≡ show_buffer q place buffer
+  unfolding show_buffer
+  unchanged number h = ap (λ (x : Verdict). shown_buffer x (block_at q place) buffer) (sym h)
+
+  pub answered : {v : Verdict} → show_verdict q place buffer ≡ v → shown_answer v ≡ show_answer q place buffer
+  unfolding show_answer
+  answered h = ap shown_answer (sym h)

@@ -1,7 +1,7 @@
 -- What comes of the verdict of a dated show (document 02 (m)): one of the first rows refuses it, or one of its date's, or the
 -- block of the place decides; and that it does what show does, if it is accepted.
 -- Assumes nothing.
-use mathlib.Core.Path.{◌≡◌, refl, sym, ap, ◌∙◌}
+use mathlib.Core.Path.{◌≡◌, sym, ap, ◌∙◌}
 use mathlib.Core.Bool.{Bool, true, false, not}
 use mathlib.Core.List.{List, [], ◌∷◌}
 use Prim.Native.Nat.{ℕ, ◌+◌}
@@ -10,11 +10,9 @@ use Rattle.calendar.specs.Calendar.{Date, date_exists, day_number}
 use Rattle.calendar.specs.Term.{Term, term_of, in_term}
 use Rattle.blocks_of_card.specs.Card.{block_of}
 use Rattle.block_seals.specs.Sealed.{sound, payload_of}
-use Rattle.catalogue_standings.specs.Rows.{Row, row, Verdict, accepted, refused, first_of, row_number}
-use Rattle.catalogue_standings.specs.declared.Answer.{Answer}
-use Rattle.catalogue_standings.specs.declared.Answer.TheVariants.{Refused}
+use Rattle.catalogue_standings.specs.Rows.{Row, row, Verdict, accepted, refused, first_of}
 use Rattle.catalogue_standings.proofs.Openings.{skip, stop, none_left}
-use Rattle.catalogue_standings.proofs.Rows.{clear, first_then, zero_accepts, other_row}
+use Rattle.catalogue_standings.proofs.Rows.{clear, first_then}
 use Rattle.refusals.specs.Effects.{showing_verdict, term_verdict, block_verdict, shown_answer, shown_buffer}
 use Rattle.refusals.specs.Effects.{show_verdict, show_dated_verdict, show_dated_answer, show_dated_buffer}
 use Rattle.refusals.specs.Lent.{Lent}
@@ -22,7 +20,7 @@ use Rattle.refusals.specs.Table.{on, show_dated, term_rows, table_of}
 use Rattle.refusals.specs.Views.{view_on}
 use Rattle.refusals.proofs.Beginnings.{behind}
 use Rattle.refusals.proofs.Room.{view_of}
-use Rattle.refusals.proofs.Show.{told, block_at, sound_at}
+use Rattle.refusals.proofs.Show.{block_at, sound_at}
 use Rattle.refusals.proofs.Showing.{showing_then}
 
 -- ---- the rows of a date
@@ -47,14 +45,6 @@ module _ (s : Bool) (t : Term) (date : Date) where
       within e =
           skip 19 _ _ accepted (ap not exists)
           (skip 4 _ _ accepted (ap not holds) (skip 20 _ _ accepted (ap not e) none_left))
-
-  -- no row has the number 0
-  none_zero : row_number (term_verdict s t date) ≡ 0 → term_verdict s t date ≡ accepted
-  unfolding term_verdict
-  none_zero = zero_accepts (term_rows s t date []) refl
-
-  pub term_zero : (number : ℕ) → number ≡ row_number (term_verdict s t date) → number ≡ 0 → term_verdict s t date ≡ accepted
-  term_zero number e z = none_zero (sym e ∙ z)
 
   -- the rows behind them decide, where none of them holds
   term_then : (rows : List Row) → first_of (term_rows s t date rows) ≡ behind (term_verdict s t date) rows
@@ -89,23 +79,26 @@ module _ (q : Lent) (place : ℕ) (date : Date) (buffer : List ℕ) where
       (term_rows (sound q.sheet 0 (block_of q.card b)) term date last))
       (add-zero q.entry.start)
 
-  abbrev Answered : Answer → List ℕ → Type 0
-  Answered r after = (r ≡ show_dated_answer q place date buffer) × (after ≡ show_dated_buffer q place date buffer)
+  -- what the buffer holds, and what is answered, once the verdict is known
+  pub left : {v : Verdict} → show_dated_verdict q place date buffer ≡ v
+      → shown_buffer v (block_at q place) buffer ≡ show_dated_buffer q place date buffer
+  unfolding show_dated_buffer
+  left h = ap (λ (x : Verdict). shown_buffer x (block_at q place) buffer) (sym h)
 
-  answered : (v : Verdict) → show_dated_verdict q place date buffer ≡ v → (r : Answer) (after : List ℕ) → r ≡ shown_answer v
-      → after ≡ shown_buffer v (block_at q place) buffer → Answered r after
-  unfolding show_dated_answer show_dated_buffer
-  answered v h r after made left =
-      told (show_dated_verdict q place date buffer) v h (block_at q place) buffer r after made left
+  pub unchanged : (number : ℕ) → show_dated_verdict q place date buffer ≡ refused number
+      → buffer ≡ show_dated_buffer q place date buffer
+  unfolding show_dated_buffer
+  unchanged number h = ap (λ (x : Verdict). shown_buffer x (block_at q place) buffer) (sym h)
+
+  pub answered : {v : Verdict} → show_dated_verdict q place date buffer ≡ v → shown_answer v
+      ≡ show_dated_answer q place date buffer
+  unfolding show_dated_answer
+  answered h = ap shown_answer (sym h)
 
   -- one of the first rows holds
-  pub by_first : (number : ℕ) → number ≡ row_number (showing_verdict q place buffer) → (number ≡ 0 → ⊥)
-      → Answered (Refused number) buffer
-  by_first number e some =
-      answered (refused number)
-      (verdict_behind ∙ ap (λ (x : Verdict). behind x (term_rows first_sound term date last))
-      (other_row (showing_verdict q place buffer) number e some))
-      (Refused number) buffer refl refl
+  pub by_first : (number : ℕ) → showing_verdict q place buffer ≡ refused number
+      → show_dated_verdict q place date buffer ≡ refused number
+  by_first number h = verdict_behind ∙ ap (λ (x : Verdict). behind x (term_rows first_sound term date last)) h
 
   module _ (opens : showing_verdict q place buffer ≡ accepted) where
     past_first : show_dated_verdict q place date buffer ≡ behind by_date last
@@ -114,19 +107,13 @@ module _ (q : Lent) (place : ℕ) (date : Date) (buffer : List ℕ) where
         ∙ term_then first_sound term date last
 
     -- one of the rows of the date does
-    pub by-term : (number : ℕ) → number ≡ row_number by_date → (number ≡ 0 → ⊥) → Answered (Refused number) buffer
-    by-term number e some =
-        answered (refused number)
-        (past_first ∙ ap (λ (x : Verdict). behind x last) (other_row by_date number e some))
-        (Refused number) buffer refl refl
+    pub by-term : (number : ℕ) → by_date ≡ refused number → show_dated_verdict q place date buffer ≡ refused number
+    by-term number h = past_first ∙ ap (λ (x : Verdict). behind x last) h
 
     -- none of them does
-    pub by_block : by_date ≡ accepted → (r : Answer) (after : List ℕ)
-        → r ≡ shown_answer (block_verdict (sound_at q place))
-        → after ≡ shown_buffer (block_verdict (sound_at q place)) (block_at q place) buffer → Answered r after
+    pub by_block : by_date ≡ accepted → show_dated_verdict q place date buffer ≡ block_verdict (sound_at q place)
     unfolding block_verdict
-    by_block holds r after made left =
-        answered (block_verdict (sound_at q place)) (past_first ∙ ap (λ (x : Verdict). behind x last) holds) r after made left
+    by_block holds = past_first ∙ ap (λ (x : Verdict). behind x last) holds
 
   -- ---- where it is accepted, so is a show of the place
 

@@ -1,7 +1,10 @@
 -- What the first rows say of a call that shows a place of a Complete sheet: the verdict in each case, and where none of them
 -- holds, what the sheet and the place are.
 -- Assumes nothing.
-use mathlib.Core.Path.{◌≡◌, refl, sym, ap, ◌∙◌}
+use Rattle.std.specs.Prelude.{Ok, Err}
+use Rattle.catalogue_standings.specs.Refusals.{number}
+use Rattle.catalogue_standings.specs.declared.Refusal.{Refusal}
+use mathlib.Core.Path.{◌≡◌, refl, ap, ◌∙◌}
 use mathlib.Core.Bool.{false, true≢false}
 use mathlib.Core.List.{List, []}
 use Prim.Native.Nat.{ℕ, ◌+◌, ◌*◌, ◌<◌, ◌≤◌}
@@ -10,13 +13,12 @@ use lib.ListN.{length}
 use borrow.Author.Tests.{not-false}
 use Rattle.map_blocks.specs.Blocks.{free}
 use Rattle.catalogue_standings.specs.Openings.{row_of}
-use Rattle.catalogue_standings.specs.Rows.{Row, accepted, refused, first_of, row_number}
+use Rattle.catalogue_standings.specs.Rows.{Row, accepted, refused, first_of}
 use Rattle.catalogue_standings.specs.Standings.{start_of, length_of, is_absent, is_paused, is_open, is_damaged}
-use Rattle.catalogue_standings.specs.declared.Opened.TheVariants.{Refused, Stands}
 use Rattle.catalogue_standings.specs.declared.Standing.{Standing}
 use Rattle.catalogue_standings.specs.declared.Standing.TheVariants.{Absent, Paused, PausedWith, Open, Complete, Damaged}
 use Rattle.catalogue_standings.proofs.Openings.{Extent, NotComplete, opened, closed, skip, stop, none_left, complete_extent}
-use Rattle.catalogue_standings.proofs.Rows.{clear, first_then, zero_accepts}
+use Rattle.catalogue_standings.proofs.Rows.{clear, first_then}
 use Rattle.refusals.specs.Effects.{showing_verdict}
 use Rattle.refusals.specs.Lent.{Lent}
 use Rattle.refusals.specs.Table.{opening, showing}
@@ -41,15 +43,15 @@ module _ (q : Lent) (place : ℕ) (buffer : List ℕ) where
   abbrev pub showing_rows : List Row → List Row
   showing_rows rows = opening (view_of q) q.sheet (showing (view_of q) place buffer rows)
 
-  pub showing_shut : (number : ℕ) → first q ≡ Refused number → showing_verdict q place buffer ≡ refused number
+  pub showing_shut : (why : Refusal) → first q ≡ Err why → showing_verdict q place buffer ≡ refused (number why)
   unfolding showing_verdict view_on
-  showing_shut number h = closed _ _ _ _ _ _ number h
+  showing_shut why h = closed _ _ _ _ _ _ why h
 
-  pub showing_other : (s : Standing) → first q ≡ Stands s → NotComplete s → showing_verdict q place buffer ≡ refused (row_of s)
+  pub showing_other : (s : Standing) → first q ≡ Ok s → NotComplete s → showing_verdict q place buffer ≡ refused (row_of s)
   unfolding showing_verdict view_on
   showing_other s h differs = complete_else _ _ _ _ _ _ s h differs
 
-  module _ (start blocks : ℕ) (h : first q ≡ Stands (Complete start blocks)) where
+  module _ (start blocks : ℕ) (h : first q ≡ Ok (Complete start blocks)) where
     lasts : length_of (standing q) ≡ blocks
     lasts = ap length_of (opened q.turned (all_fits q) q.sheets q.sheet (standing q) (Complete start blocks) [] h).same
 
@@ -71,15 +73,6 @@ module _ (q : Lent) (place : ℕ) (buffer : List ℕ) where
       showing-passes d =
           complete_passes _ _ _ _ _ _ start blocks h
           ∙ skip 3 _ _ _ (placed (length_of (standing q)) place (length buffer) (omega (arith, lasts)) d) none_left
-
-  -- no row has the number 0
-  none_zero : row_number (showing_verdict q place buffer) ≡ 0 → showing_verdict q place buffer ≡ accepted
-  unfolding showing_verdict
-  none_zero = zero_accepts (showing_rows []) refl
-
-  pub showing_zero : (number : ℕ) → number ≡ row_number (showing_verdict q place buffer) → number ≡ 0
-      → showing_verdict q place buffer ≡ accepted
-  showing_zero number e z = none_zero (sym e ∙ z)
 
   -- the rows behind them decide, where none of them holds
   pub showing_then : (rows : List Row) → first_of (showing_rows rows) ≡ behind (showing_verdict q place buffer) rows

@@ -2,6 +2,7 @@
 -- length changes no verdict but that of a reserve's search; with the map's own summary that is the same too, and it is the
 -- changed map's own afterwards.
 -- Assumes nothing.
+use Rattle.std.specs.Prelude.{Option}
 use mathlib.Core.Path.{◌≡◌, refl, sym, ap, ◌∙◌}
 use mathlib.Core.Logic.{◌⊎◌, inl, inr}
 use mathlib.Core.Bool.{Bool, true, false, not, ◌&&◌}
@@ -11,7 +12,6 @@ use native.Mathlib.Omega.{arith}
 use lib.Dec.{ltb}
 use lib.ListN.{length}
 use borrow.Author.Tests.{ne_eqb, eq-eqb}
-use Rattle.map_blocks.specs.declared.Found.{Found}
 use Rattle.catalogue.specs.declared.Entry.{Entry}
 use Rattle.catalogue_standings.specs.Rows.{Row, row, Verdict, accepted, refused, first_of, before, settle}
 use Rattle.catalogue_standings.specs.Searches.{none, start_at}
@@ -144,7 +144,7 @@ module _ (held : ℕ) (limits summary : List ℕ) (n spare : ℕ) (map card : Li
           let same = found-same h in
           inr (
             reserving.searched with_it k p _ (unsearched-same own-long k p ∙ h) refl
-                ∙ ap (λ (o : Found). first_of (row 10 (none o) ∷ row 4 (ltb spare k) ∷ [])) same
+                ∙ ap (λ (o : Option ℕ). first_of (row 10 (none o) ∷ row 4 (ltb spare k) ∷ [])) same
                 ∙ sym (reserving.searched without k p _ h refl),
             ap start_at same,
           )

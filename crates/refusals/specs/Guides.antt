@@ -1,8 +1,8 @@
 -- A call that searches or changes the map goes by the map alone, or is guided by a lent summary (document 02, request j).
 -- Assumes nothing.
+use Rattle.std.specs.Prelude.{Option}
 use Rattle.std.specs.Prelude.{ℕ, Bool, true, ◌&&◌, cond, List, eqb, leb, length}
 use Rattle.map_blocks.specs.Blocks.{free}
-use Rattle.map_blocks.specs.declared.Found.{Found}
 use Rattle.summary.specs.Summary.{summary_length}
 use Rattle.summary.specs.Updates.{updated_summary}
 use Rattle.summary_search.specs.SearchBy.{search_by}
@@ -18,7 +18,7 @@ abbrev pub guide_tested : Bool → ℕ → ℕ → Bool
 guide_tested guided maplen summarylen = cond guided (leb maplen 4096 && eqb summarylen (summary_length maplen)) true
 
 -- What the search of a reserve finds.
-abbrev pub found_by : Bool → List ℕ → List ℕ → Figures → ℕ → Found
+abbrev pub found_by : Bool → List ℕ → List ℕ → Figures → ℕ → Option ℕ
 found_by guided summary map g k =
     cond guided (search_by map summary g.from g.before g.step k) (least_within (free map) g k)
 

@@ -2,6 +2,8 @@
 -- Assumes nothing.
 use Rattle.std.specs.Prelude.{ℕ, Bool, false, List, []}
 use Rattle.catalogue.specs.declared.Entry.{Entry}
+use Rattle.catalogue_standings.specs.declared.opening.Asked.{Asked}
+use Rattle.roles.specs.Roles.{turned_away}
 
 -- n and the free count of the shape; the map and the card; c, the sheet's entry in the catalogue, and the sheet's number;
 -- whether a summary is lent beside the map, with its numbers; and for a call that takes blocks how many the sheet's wing holds,
@@ -83,3 +85,9 @@ lent n spare map card c e sheet = lent_beside false [] n spare map card c e shee
 -- For a call that is not lent the card.
 abbrev pub no_card : List ℕ
 no_card = []
+
+-- What a call is lent, by what it is asked and its name in the table of roles: guided by a summary or not, with map and card.
+abbrev pub lent_for : Asked → ℕ → Bool → List ℕ → List ℕ → List ℕ → Lent
+lent_for asked call guided summary map card =
+    called_by (turned_away asked.role call)
+    (lent_beside guided summary asked.n asked.free map card asked.sheets asked.entry asked.sheet)

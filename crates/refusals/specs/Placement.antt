@@ -1,8 +1,8 @@
 -- The three figures of a reserve: from, before and step (document 02, request a).
 -- Assumes nothing.
+use Rattle.std.specs.Prelude.{Option}
 use Rattle.std.specs.Prelude.{ℕ, Bool, ◌||◌, eqb, leb, ltb}
 use Rattle.map_blocks.specs.Blocks.{fit, least_fit}
-use Rattle.map_blocks.specs.declared.Found.{Found}
 use Rattle.refusals.specs.declared.Figures.{Figures}
 
 abbrev pub figures : ℕ → ℕ → ℕ → Figures
@@ -26,5 +26,5 @@ misfigured n g = eqb g.step 0 || leb g.before g.from || ltb n g.before
 abbrev pub fit_within : (ℕ → Bool) → Figures → ℕ → ℕ → Bool
 fit_within f g k s = fit f g.from g.before g.step k s
 
-abbrev pub least_within : (ℕ → Bool) → Figures → ℕ → Found
+abbrev pub least_within : (ℕ → Bool) → Figures → ℕ → Option ℕ
 least_within f g k = least_fit f g.from g.before g.step k

@@ -4,14 +4,13 @@
 -- place wanted (request m), 9, 10, 11 or 17 (request f), and last 4 for the count. A call is refused with the first row that
 -- holds.
 -- Assumes nothing.
+use Rattle.std.specs.Prelude.{Option}
 use Rattle.std.specs.Prelude.{ℕ, ◌+◌, Bool, true, false, not, ◌&&◌, ◌||◌, List, [], ◌∷◌, eqb, leb, ltb, length}
 use Rattle.calendar.specs.Calendar.{Date, date_exists, day_number}
 use Rattle.calendar.specs.Term.{Term, in_term}
 use Rattle.map_blocks.specs.Blocks.{all, fit, least, least_fit}
-use Rattle.map_blocks.specs.declared.Found.{Found}
 use Rattle.refusals.specs.Placement.{Placement, plain, figures_in, misfigured}
 use Rattle.refusals.specs.Shares.{over_limit}
-use Rattle.refusals.specs.declared.Admits.{Admits}
 use Rattle.refusals.specs.declared.Figures.{Figures}
 use Rattle.catalogue.specs.Entries.{paused_mark, complete_mark}
 use Rattle.catalogue_standings.specs.Searches.{none, start_at}
@@ -23,6 +22,14 @@ use Rattle.catalogue_standings.specs.declared.Standing.{Standing}
 -- The calls that change the mark of an entry and nothing else of a card.
 pub data Change : Type 0 where
   pause resume : Change
+
+-- The standings that a call admits, by the names of `Standing`. A damaged one is admitted by none.
+pub record Admits : Type 0 where
+  pub absent : Bool
+  pub paused : Bool
+  pub pausedwith : Bool
+  pub «open» : Bool
+  pub complete : Bool
 
 -- Which standings each admits (document 01; document 02 (g)), and the mark that it leaves.
 abbrev pub admits_of : Change → Admits
@@ -73,7 +80,7 @@ pub record View : Type 0 where
   pub stands : Standing
   pub free : ℕ → Bool
   -- what the search of a reserve finds, within its figures, for k
-  pub found : Figures → ℕ → Found
+  pub found : Figures → ℕ → Option ℕ
   -- a place of the sheet is blank, or its block is sound
   pub blank : ℕ → Bool
   pub sound : ℕ → Bool

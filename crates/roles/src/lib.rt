@@ -2,123 +2,152 @@
 #![tactic(auto)]
 
 ghost use Rattle.std.specs.Prelude.{◌≡◌};
+ghost use Rattle.roles.specs.Names.{call_number, role_number, Names, NamesCall};
 ghost use Rattle.roles.specs.Roles as table;
 
-// The roles.
+// The roles' numbers, which C passes.
 pub const PHARMACIST: u32 = 1;
 
 pub const CARER: u32 = 2;
 
 pub const SERVICE: u32 = 3;
 
-// The refusal of an unknown role, or of a call that is not in its row.
-pub const TURNED_AWAY: u32 = 21;
-
-// The names of the calls that take a role. A reserve is plain or placed, and a call that is lent a summary has the name of the
-// call without it.
-pub const FRESH: u32 = 1;
-
-pub const SEARCH: u32 = 2;
-
-pub const SURVEY: u32 = 3;
-
-pub const RESERVE: u32 = 4;
-
-pub const OFFER: u32 = 5;
-
-pub const ACCEPT: u32 = 6;
-
-pub const GROW: u32 = 7;
-
-pub const PUT: u32 = 8;
-
-pub const COMPLETE: u32 = 9;
-
-pub const PAUSE: u32 = 10;
-
-pub const RESUME: u32 = 11;
-
-pub const RELEASE: u32 = 12;
-
-pub const SHOW: u32 = 13;
-
-pub const SHOW_DATED: u32 = 14;
-
-pub const STANDING: u32 = 15;
-
-pub const SAVE: u32 = 16;
-
-pub const LOAD: u32 = 17;
-
-pub const CLOSE: u32 = 18;
-
-pub const BUILD_SUMMARY: u32 = 19;
-
-pub const CHECK_SUMMARY: u32 = 20;
-
-// Carers read.
-#[tactic(auto, unfolding(crate::specs::Roles::carer_may))]
-fn carer_may(call: u32) -> bool
-    ensures { result ≡ table.carer_may call }
-{
-    if call == SHOW_DATED {
-        return true;
-    }
-    if call == STANDING {
-        return true;
-    }
-    if call == SURVEY {
-        return true;
-    }
-    false
+// The roles.
+#[derive(Clone, Copy, PartialEq, Eq)]
+pub enum Role {
+    Pharmacist,
+    Carer,
+    Service,
 }
 
-// Service looks after the card.
-#[tactic(auto, unfolding(crate::specs::Roles::service_may))]
-fn service_may(call: u32) -> bool
-    ensures { result ≡ table.service_may call }
-{
-    if call == FRESH {
-        return true;
+// A number that is no role's.
+#[derive(Clone, Copy, PartialEq, Eq)]
+pub struct UnknownRole(pub u32);
+
+impl TryFrom<u32> for Role {
+    type Error = UnknownRole;
+
+    ghost try_from_gives = { Names };
+
+    fn try_from(number: u32) -> Result<Role, UnknownRole> {
+        match number {
+            PHARMACIST => Ok(Role::Pharmacist),
+            CARER => Ok(Role::Carer),
+            SERVICE => Ok(Role::Service),
+            _ => Err(UnknownRole(number)),
+        }
     }
-    if call == SAVE {
-        return true;
-    }
-    if call == LOAD {
-        return true;
-    }
-    if call == CLOSE {
-        return true;
-    }
-    if call == STANDING {
-        return true;
-    }
-    if call == SURVEY {
-        return true;
-    }
-    false
 }
 
-// Whether a role, which may be any number, may make a call.
-#[tactic(auto, unfolding(crate::specs::Roles::may))]
+// The calls that take a role. A reserve is plain or placed, and a call that is lent a summary has the name of the call
+// without it.
+#[derive(Clone, Copy, PartialEq, Eq)]
+pub enum Call {
+    Fresh,
+    Search,
+    Survey,
+    Reserve,
+    Offer,
+    Accept,
+    Grow,
+    Put,
+    Complete,
+    Pause,
+    Resume,
+    Release,
+    Show,
+    ShowDated,
+    Standing,
+    Save,
+    Load,
+    Close,
+    BuildSummary,
+    CheckSummary,
+}
+
+impl Role {
+    // Whether the role may make a call.
+    #[tactic(auto, unfolding(crate::specs::Roles::may))]
+    fn may(self, call: Call) -> bool
+        ensures { result ≡ table.may (role_number self) (call_number call) }
+    {
+        match self {
+            Role::Pharmacist => true,
+            // Carers read.
+            Role::Carer => matches!(call, Call::ShowDated | Call::Standing | Call::Survey),
+            // Service looks after the card.
+            Role::Service => matches!(
+                call,
+                Call::Fresh | Call::Save | Call::Load | Call::Close | Call::Standing | Call::Survey
+            ),
+        }
+    }
+}
+
+// A number that is no call's.
+#[derive(Clone, Copy, PartialEq, Eq)]
+pub struct UnknownCall(pub u32);
+
+impl TryFrom<u32> for Call {
+    type Error = UnknownCall;
+
+    ghost try_from_gives = { NamesCall };
+
+    fn try_from(number: u32) -> Result<Call, UnknownCall> {
+        match number {
+            1 => Ok(Call::Fresh),
+            2 => Ok(Call::Search),
+            3 => Ok(Call::Survey),
+            4 => Ok(Call::Reserve),
+            5 => Ok(Call::Offer),
+            6 => Ok(Call::Accept),
+            7 => Ok(Call::Grow),
+            8 => Ok(Call::Put),
+            9 => Ok(Call::Complete),
+            10 => Ok(Call::Pause),
+            11 => Ok(Call::Resume),
+            12 => Ok(Call::Release),
+            13 => Ok(Call::Show),
+            14 => Ok(Call::ShowDated),
+            15 => Ok(Call::Standing),
+            16 => Ok(Call::Save),
+            17 => Ok(Call::Load),
+            18 => Ok(Call::Close),
+            19 => Ok(Call::BuildSummary),
+            20 => Ok(Call::CheckSummary),
+            _ => Err(UnknownCall(number)),
+        }
+    }
+}
+
+// Whether a role may make a call; each may be any number. No call that has no name is in the row of carers or of service.
+#[tactic(auto, unfolding(crate::specs::Roles::may, crate::specs::Roles::carer_may, crate::specs::Roles::service_may))]
 pub fn may(role: u32, call: u32) -> bool
     ensures { result ≡ table.may role call }
 {
-    if role == PHARMACIST {
-        return true;
+    match (Role::try_from(role), Call::try_from(call)) {
+        (Ok(role), Ok(call)) => role.may(call),
+        (Ok(Role::Pharmacist), Err(_)) => true,
+        _ => false,
     }
-    if role == CARER {
-        return carer_may(call);
-    }
-    if role == SERVICE {
-        return service_may(call);
-    }
-    false
 }
 
-// Whether a call is turned away by role: row 21 of every call.
+// Whether a call is turned away by role: row 21 of every call. Each may be any number.
 pub fn turned_away(role: u32, call: u32) -> bool
     ensures { result ≡ table.turned_away role call }
 {
     !may(role, call)
+}
+
+impl Call {
+    // Whether the call is turned away by role, which may be any number.
+    #[tactic(auto, unfolding(crate::specs::Roles::may))]
+    pub fn turned_away(self, role: u32) -> bool
+        ensures { result ≡ table.turned_away role (call_number self) }
+    {
+        match Role::try_from(role) {
+            Ok(role) => !role.may(self),
+            Err(_) => true,
+        }
+    }
 }

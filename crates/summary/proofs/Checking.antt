@@ -16,9 +16,6 @@ use Rattle.summary.proofs.Sites.{group_at_lem, at_halves}
 pub refuted : (P : Type 0) → (P → ⊥) → Decides false P
 refuted P n = (λ e. absurd (false≢true e), λ e p. n p)
 
-pub decides_same : (r : Bool) (x y x' y' : Group) → Decides r (x ≡ y) → x ≡ x' → y ≡ y' → Decides r (x' ≡ y')
-decides_same r x y x' y' d p q = (λ e. sym p ∙ d.0 e ∙ q, λ e h. d.1 e (p ∙ h ∙ sym q))
-
 module _ (f : ℕ → Bool) (p : ℕ) (s : List ℕ) where
   pub word_decides : (r : Bool) (g first : ℕ) → Sited p g first 1 → Decides r (group_in s g ≡ group_of f (64 * first) 64)
       → Decides r (RightBelow f p s g)

@@ -7,3 +7,4 @@ pub mod Rebuilding
 pub mod Sites
 pub mod Updates
 pub mod Usable
+mod Width

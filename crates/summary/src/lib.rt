@@ -1,6 +1,7 @@
 // The summary beside a map (document 02, request (j)): for each group of words the free run at its head, at its tail and its
 // longest, three numbers to a group. Its length, a group of it, the free blocks of a word that it tells of, and whether it
-// is the map's own.
+// is the map's own. That map, n and summary go together (`Matched`) is a clause of the functions that are lent all three, and
+// no type's invariant: of the three each is lent by itself, the summary to be read or to be changed.
 #![tactic(auto)]
 
 ghost use Rattle.std.specs.Prelude.{◌≡◌, ℕ, ◌+◌, ◌*◌, ◌<◌, ◌≤◌, length};
@@ -13,24 +14,12 @@ ghost use Rattle.summary.specs.Walks.{halves_of, RightBelow, Decides};
 use map_blocks::word::part;
 use summary_groups::{Group, joined, word_group};
 
-// The least power of two not below w.
-fn width(w: usize) -> usize
-    requires { w ≤ 4096 }
-    ensures { result ≡ power w }
-{
-    let mut p: usize = 1;
-    while p < w {
-        p = 2 * p;
-    }
-    p
-}
-
 // How many numbers the summary of a map of w words has.
 pub fn summary_len(w: usize) -> usize
     requires { w ≤ 4096 }
     ensures { result ≡ summary_length w }
 {
-    3 * (2 * width(w) - 1)
+    3 * (2 * w.next_power_of_two() - 1)
 }
 
 // How many words group 0 has, by the summary's length.
@@ -40,7 +29,7 @@ pub fn words_of(summary: &[u32]) -> usize
     (summary.len() + 3) / 6
 }
 
-// Group g of a summary.
+// Group g of a summary, which C lends as numbers in a row.
 pub fn read(summary: &[u32], g: usize) -> Group
     requires { (g ≤ 16384) × (3 * g + 2 < length summary.now) }
     ensures { result ≡ group_in summary.now g }
@@ -65,26 +54,12 @@ pub fn free_word(map: &[u64], n: u32, i: usize) -> u64
     map[i] & part(0, n, base)
 }
 
-// Whether two groups are the same. The tail is compared first: the last two would otherwise be read from memory as one number,
-// right after they have been stored as two.
-pub fn agree(a: Group, b: Group) -> bool
-    ensures { Decides result (a ≡ b) }
-{
-    if a.tail != b.tail {
-        return false;
-    }
-    if a.head != b.head {
-        return false;
-    }
-    a.longest == b.longest
-}
-
 // Whether group g, of word i alone, is right.
 fn word_agrees(map: &[u64], n: u32, summary: &[u32], g: usize, i: usize) -> bool
     requires { (i ≤ 4096) × (n ≤ 64 * length map.now) × (g ≤ 16384) × (3 * g + 2 < length summary.now) }
     ensures { Decides result (group_in summary.now g ≡ group_of (usable map.now n) (64 * i) 64) }
 {
-    agree(read(summary, g), word_group(free_word(map, n, i)))
+    read(summary, g) == word_group(free_word(map, n, i))
 }
 
 // Whether group g is as its two halves tell, of half words each.
@@ -94,7 +69,7 @@ fn halves_agree(summary: &[u32], g: usize, half: usize) -> bool
 {
     let a = read(summary, 2 * g + 1);
     let b = read(summary, 2 * g + 2);
-    agree(read(summary, g), joined(a, b, 64 * (half as u32)))
+    read(summary, g) == joined(a, b, 64 * (half as u32))
 }
 
 // Whether group g, of the words first to first + size - 1, and the groups below it are right.

@@ -9,13 +9,14 @@ ghost use Rattle.summary_groups.specs.Words.{StartsOf, Reaching, Longest};
 use map_blocks::word::ONES;
 use map_search_starts::head;
 use map_search_word::word::tail;
-use survey_words::larger;
 
-// What a summary tells of a group: the free run at its head, at its tail, and its longest.
-#[derive(Clone, Copy)]
+// What a summary tells of a group: the free run at its head, at its tail, and its longest. The tail stands first, so that it is
+// compared first: numbers side by side in the summary would otherwise be read from memory as one, right after they have been
+// stored as two.
+#[derive(Clone, Copy, PartialEq, Eq)]
 pub struct Group {
-    pub head: u32,
     pub tail: u32,
+    pub head: u32,
     pub longest: u32,
 }
 
@@ -26,20 +27,23 @@ struct Runs {
     length: u32,
 }
 
-// The runs of `length` + more where there are any, otherwise the same runs. The bits of `ends` are where runs of `more` start.
-fn longer(runs: Runs, ends: u64, more: u32) -> Runs
-    requires { (0 < more) × (runs.length + more ≤ 64) }
-    ensures length_bound { result.length ≤ runs.length + more }
-    ensures by_index { (w : ℕ) → Reaching w runs.starts runs.length (more + more) → StartsOf w more ends
-        → Reaching w result.starts result.length more }
-{
-    let starts = runs.starts & (ends << runs.length);
-    if starts == 0 {
-        return runs;
-    }
-    Runs {
-        starts: starts,
-        length: runs.length + more,
+impl Runs {
+    // The runs of `length` + more where there are any, otherwise the same runs. The bits of `ends` are where runs of `more`
+    // start.
+    fn longer(self, ends: u64, more: u32) -> Runs
+        requires { (0 < more) × (self.length + more ≤ 64) }
+        ensures length_bound { result.length ≤ self.length + more }
+        ensures by_index { (w : ℕ) → Reaching w self.starts self.length (more + more) → StartsOf w more ends
+            → Reaching w result.starts result.length more }
+    {
+        let starts = self.starts & (ends << self.length);
+        if starts == 0 {
+            return self;
+        }
+        Runs {
+            starts,
+            length: self.length + more,
+        }
     }
 }
 
@@ -52,19 +56,17 @@ fn longest(w: u64) -> u32
     let fours = twos & (twos << 2);
     let eights = fours & (fours << 4);
     let sixteens = eights & (eights << 8);
-    let r32 = longer(
-        Runs {
-            starts: w,
-            length: 1,
-        },
-        sixteens & (sixteens << 16),
-        32,
-    );
-    let r16 = longer(r32, sixteens, 16);
-    let r8 = longer(r16, eights, 8);
-    let r4 = longer(r8, fours, 4);
-    let r2 = longer(r4, twos, 2);
-    longer(r2, w, 1).length
+    let ones = Runs {
+        starts: w,
+        length: 1,
+    };
+    ones.longer(sixteens & (sixteens << 16), 32)
+        .longer(sixteens, 16)
+        .longer(eights, 8)
+        .longer(fours, 4)
+        .longer(twos, 2)
+        .longer(w, 1)
+        .length
 }
 
 // What a word tells. Words that are all taken or all free need no work.
@@ -96,10 +98,7 @@ pub fn word_group(w: u64) -> Group
 fn carried(run: u32, m: u32, next: u32) -> u32
     ensures { result ≡ carried_of run m next }
 {
-    if run == m {
-        return std::num::wrapping_add_u32(m, next);
-    }
-    run
+    if run == m { m.wrapping_add(next) } else { run }
 }
 
 // A group from its halves, of m blocks each.
@@ -109,9 +108,6 @@ pub fn joined(a: Group, b: Group, m: u32) -> Group
     Group {
         head: carried(a.head, m, b.head),
         tail: carried(b.tail, m, a.tail),
-        longest: larger(
-            larger(a.longest, b.longest),
-            std::num::wrapping_add_u32(a.tail, b.head),
-        ),
+        longest: a.longest.max(b.longest).max(a.tail.wrapping_add(b.head)),
     }
 }

@@ -1,14 +1,12 @@
 -- The first words of the map, which are looked at before the groups.
 -- Assumes nothing.
+use Rattle.std.specs.Prelude.{Option, Some, None}
 use mathlib.Core.Path.{◌≡◌, sym, ap, ◌∙◌}
-use mathlib.Core.Bool.{Bool, true, false, cond}
+use mathlib.Core.Bool.{Bool, cond}
 use mathlib.Core.List.{List}
 use Prim.Native.Nat.{ℕ, ◌+◌, ◌≤◌, ◌<◌, min}
-use native.Mathlib.Omega.{arith}
 use lib.Dec.{ltb}
 use borrow.Author.Tests.{lt-ltb, le-ltb, le-leb}
-use Rattle.map_blocks.specs.declared.Found.{Found}
-use Rattle.map_blocks.specs.declared.Found.TheVariants.{At, Nothing}
 use Rattle.map_blocks.specs.Blocks.{free, least_fit, or_else}
 use Rattle.summary.specs.Summary.{group_in}
 use Rattle.summary_search.specs.SearchBy.{search_down, near_of, search_by}
@@ -27,28 +25,20 @@ module _ (step k : ℕ) where
       ap (λ (b : Bool). cond b 0 512) (sym (le-ltb 16 k l))
       ∙ ap (λ (b : Bool). cond b 0 (cond (ltb 16 k) 0 512)) (sym (le-ltb 8 step u))
 
-  pub near_small : near_of step k ≤ 512
-  near_small = go (ltb 8 step) (ltb 16 k)
-    where
-      go : (a b : Bool) → cond a 0 (cond b 0 512) ≤ 512
-      go true b = omega arith
-      go false true = omega arith
-      go false false = omega arith
-
 -- what the search by a summary comes to
 module _ (map summary : List ℕ) (from before step k : ℕ) (l : k ≤ (group_in summary 0).longest) where
-  begun : (r : Found) → least_fit (free map) from (min before (from + near_of step k)) step k ≡ r
+  begun : (r : Option ℕ) → least_fit (free map) from (min before (from + near_of step k)) step k ≡ r
       → or_else r (search_down map summary from before step k) ≡ search_by map summary from before step k
   unfolding search_by
   begun r e =
-      ap (λ (x : Found). or_else x (search_down map summary from before step k)) (sym e)
+      ap (λ (x : Option ℕ). or_else x (search_down map summary from before step k)) (sym e)
       ∙ ap (λ (b : Bool). cond b (or_else (least_fit (free map) from (min before (from + near_of step k)) step k)
-      (search_down map summary from before step k)) Nothing) (sym (le-leb k (group_in summary 0).longest l))
+      (search_down map summary from before step k)) None) (sym (le-leb k (group_in summary 0).longest l))
 
-  pub found_near : (s : ℕ) → least_fit (free map) from (min before (from + near_of step k)) step k ≡ At s
-      → At s ≡ search_by map summary from before step k
-  found_near s e = begun (At s) e
+  pub found_near : (s : ℕ) → least_fit (free map) from (min before (from + near_of step k)) step k ≡ Some s
+      → Some s ≡ search_by map summary from before step k
+  found_near s e = begun (Some s) e
 
-  pub none_near : least_fit (free map) from (min before (from + near_of step k)) step k ≡ Nothing
+  pub none_near : least_fit (free map) from (min before (from + near_of step k)) step k ≡ None
       → search_down map summary from before step k ≡ search_by map summary from before step k
-  none_near e = begun Nothing e
+  none_near e = begun None e

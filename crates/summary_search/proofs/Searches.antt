@@ -1,6 +1,9 @@
 -- What a search by a summary gives: with any summary nothing but fits, none where group 0's longest is below k, and with the
 -- map's own summary the least fit.
 -- Assumes nothing.
+use Rattle.std.specs.Prelude.{Option, Some, None}
+use Rattle.std.specs.declared.ops.ControlFlow.{ControlFlow}
+use Rattle.std.specs.declared.ops.ControlFlow.TheVariants.{Break, Continue}
 use mathlib.Core.Path.{◌≡◌, refl, sym, ap, ◌∙◌}
 use mathlib.Core.Logic.{⊎_elim}
 use mathlib.Core.Bool.{Bool, true, false, cond}
@@ -11,14 +14,10 @@ use lib.Dec.{leb, ltb}
 use lib.ListN.{length}
 use borrow.Author.Tests.{lt-ltb, lt-leb, le-leb}
 use Rattle.laws.proofs.Bools.{order, clash, and_both, not_true}
-use Rattle.map_blocks.specs.declared.Found.{Found}
-use Rattle.map_blocks.specs.declared.Found.TheVariants.{At, Nothing}
 use Rattle.map_blocks.specs.Blocks.{free, all, fit, least_fit, or_else}
 use Rattle.map_blocks.proofs.Fits.{Fits, fit_is, is_fit}
 use Rattle.map_blocks.proofs.Least.{never_both, least_at, least_none, least_passes, least_below, none_passes}
 use Rattle.map_blocks.proofs.Runs.{all_intro, all_elim}
-use Rattle.map_search_word.specs.declared.Step.{Step}
-use Rattle.map_search_word.specs.declared.Step.TheVariants.{Hit, Next}
 use Rattle.map_search_word.specs.Scan.{Carried}
 use Rattle.summary_groups.specs.Groups.{power}
 use Rattle.summary_groups.proofs.Places.{power_power, power_small, power_enough}
@@ -35,11 +34,11 @@ use Rattle.summary_search.proofs.Turns.{bounded, turn_none, turn_far, turn_near,
 
 module _ (f : ℕ → Bool) (from before step k t end : ℕ) (inside : end ≤ before) (low : from ≤ t) where
   -- its least fit is a fit of the whole
-  stretch_fits : (s : ℕ) → least_fit f t end step k ≡ At s → Fits f t end step k s
+  stretch_fits : (s : ℕ) → least_fit f t end step k ≡ Some s → Fits f t end step k s
   unfolding least_fit
   stretch_fits s e = fit_is f t end step k s (least_passes (fit f t end step k) 0 end s e).test
 
-  pub whole_fits : (s : ℕ) → least_fit f t end step k ≡ At s → Fits f from before step k s
+  pub whole_fits : (s : ℕ) → least_fit f t end step k ≡ Some s → Fits f from before step k s
   whole_fits s e =
       let h : Fits f t end step k s = stretch_fits s e in
       let a : t ≤ s = h.low in
@@ -50,14 +49,14 @@ module _ (f : ℕ → Bool) (from before step k t end : ℕ) (inside : end ≤ b
   part_fits : (u : ℕ) → t ≤ u → u + k ≤ end → Fits f from before step k u → fit f t end step k u ≡ true
   part_fits u a b h = is_fit f t end step k u (record { low = a; high = b; free = h.free; placed = h.placed })
 
-  stretch_below : (s u : ℕ) → least_fit f t end step k ≡ At s → t ≤ u → u < s → Fits f from before step k u → ⊥
+  stretch_below : (s u : ℕ) → least_fit f t end step k ≡ Some s → t ≤ u → u < s → Fits f from before step k u → ⊥
   unfolding least_fit
   stretch_below s u e a b h =
       let l : s + k ≤ end = (stretch_fits s e).high in
       clash (fit f t end step k u) (part_fits u a (omega arith) h) (least_below (fit f t end step k) 0 end s e u (omega arith)
       b)
 
-  stretch_none : (u : ℕ) → 0 < k → least_fit f t end step k ≡ Nothing → t ≤ u → u + k ≤ end → Fits f from before step k u → ⊥
+  stretch_none : (u : ℕ) → 0 < k → least_fit f t end step k ≡ None → t ≤ u → u + k ≤ end → Fits f from before step k u → ⊥
   unfolding least_fit
   stretch_none u some e a b h =
       clash (fit f t end step k u) (part_fits u a b h)
@@ -66,31 +65,31 @@ module _ (f : ℕ → Bool) (from before step k t end : ℕ) (inside : end ≤ b
 -- ---- with any summary
 
 module _ (map summary : List ℕ) (from before step k : ℕ) (some : 0 < k) where
-  turns_fit : (d at t : ℕ) → from ≤ at → turns d map summary before step k at ≡ At t → Fits (free map) from before step k t
+  turns_fit : (d at t : ℕ) → from ≤ at → turns d map summary before step k at ≡ Some t → Fits (free map) from before step k t
   unfolding turns
   turns_fit zero at t l e = absurd (never_both t (sym e))
   turns_fit (suc d) at t l e =
       by (seek summary (power (length map)) at k) refl (bounded map summary k at some) (λ at' u q. turns_fit d at' t u q)
     where
-      found : (u : ℕ) (r : Found) → least_fit (free map) u (min before (u + k + stretch step)) step k ≡ r → from ≤ u
-          → or_else r (turns d map summary before step k (u + stretch step + 1)) ≡ At t
-          → ((at' : ℕ) → from ≤ at' → turns d map summary before step k at' ≡ At t → Fits (free map) from before step k t)
+      found : (u : ℕ) (r : Option ℕ) → least_fit (free map) u (min before (u + k + stretch step)) step k ≡ r → from ≤ u
+          → or_else r (turns d map summary before step k (u + stretch step + 1)) ≡ Some t
+          → ((at' : ℕ) → from ≤ at' → turns d map summary before step k at' ≡ Some t → Fits (free map) from before step k t)
           → Fits (free map) from before step k t
-      found u (At s) f v q on =
+      found u (Some s) f v q on =
           whole_fits (free map) from before step k u (min before (u + k + stretch step)) (omega arith) v t (f ∙ q)
-      found u Nothing f v q on = on (u + stretch step + 1) (omega arith) q
+      found u None f v q on = on (u + stretch step + 1) (omega arith) q
 
-      by : (r : Step) → seek summary (power (length map)) at k ≡ r → Bounds at k (0 + 64 * power (length map)) r
-          → ((at' : ℕ) → from ≤ at' → turns d map summary before step k at' ≡ At t → Fits (free map) from before step k t)
+      by : (r : ControlFlow ℕ ℕ) → seek summary (power (length map)) at k ≡ r → Bounds at k (0 + 64 * power (length map)) r
+          → ((at' : ℕ) → from ≤ at' → turns d map summary before step k at' ≡ Some t → Fits (free map) from before step k t)
           → Fits (free map) from before step k t
-      by (Next s) q b on = absurd (never_both t (sym e ∙ turn_none map summary before step k d at s q))
-      by (Hit u) q b on =
+      by (Continue s) q b on = absurd (never_both t (sym e ∙ turn_none map summary before step k d at s q))
+      by (Break u) q b on =
           ⊎_elim (λ v. absurd (never_both t (sym e ∙ turn_far map summary before step k d at u q v)))
           (λ v. found u (least_fit (free map) u (min before (u + k + stretch step)) step k) refl (omega (arith, b.0))
           (sym (turn_near map summary before step k d at u q v) ∙ e) on) (order before (u + k))
 
   -- every start that is given is a fit
-  down_fits : (t : ℕ) → search_down map summary from before step k ≡ At t → fit (free map) from before step k t ≡ true
+  down_fits : (t : ℕ) → search_down map summary from before step k ≡ Some t → fit (free map) from before step k t ≡ true
   down_fits t e =
       ⊎_elim (λ l. absurd (never_both t (sym e ∙ short_of map summary from before step k l)))
       (λ l. let first = turning_first map summary from before step k l in
@@ -98,28 +97,28 @@ module _ (map summary : List ℕ) (from before step k : ℕ) (some : 0 < k) wher
       (order (group_in summary 0).longest k)
 
   -- every start that is given is a fit, of the first words or of those that the groups lead to
-  pub by_fits : (t : ℕ) → search_by map summary from before step k ≡ At t → fit (free map) from before step k t ≡ true
+  pub by_fits : (t : ℕ) → search_by map summary from before step k ≡ Some t → fit (free map) from before step k t ≡ true
   unfolding search_by
   by_fits t e =
       go (leb k (group_in summary 0).longest) (least_fit (free map) from (min before (from + near_of step k)) step k) refl e
     where
-      go : (b : Bool) (r : Found) → least_fit (free map) from (min before (from + near_of step k)) step k ≡ r
-          → cond b (or_else r (search_down map summary from before step k)) Nothing ≡ At t
+      go : (b : Bool) (r : Option ℕ) → least_fit (free map) from (min before (from + near_of step k)) step k ≡ r
+          → cond b (or_else r (search_down map summary from before step k)) None ≡ Some t
           → fit (free map) from before step k t ≡ true
       go false r q h = absurd (never_both t (sym h))
-      go true Nothing q h = down_fits t h
-      go true (At s) q h =
+      go true None q h = down_fits t h
+      go true (Some s) q h =
           is_fit (free map) from before step k t
           (whole_fits (free map) from before step k from (min before (from + near_of step k)) (omega arith) (omega arith) t
           (q ∙ h))
 
 -- where group 0's longest is below k there is none, whatever the map holds
 pub by_none : (map summary : List ℕ) (from before step k : ℕ) → (group_in summary 0).longest < k
-    → search_by map summary from before step k ≡ Nothing
+    → search_by map summary from before step k ≡ None
 unfolding search_by
 by_none map summary from before step k l =
     ap (λ (b : Bool). cond b (or_else (least_fit (free map) from (min before (from + near_of step k)) step k)
-    (search_down map summary from before step k)) Nothing) (lt-leb k (group_in summary 0).longest l)
+    (search_down map summary from before step k)) None) (lt-leb k (group_in summary 0).longest l)
 
 -- ---- with the map's own summary
 
@@ -146,7 +145,7 @@ module _ (map : List ℕ) (n : ℕ) (summary : List ℕ) (from before step k : �
   abbrev Clear : ℕ → Type 0
   Clear t = (u : ℕ) → u < t → Fits (free map) from before step k u → ⊥
 
-  none_left : Clear before → least_fit (free map) from before step k ≡ Nothing
+  none_left : Clear before → least_fit (free map) from before step k ≡ None
   unfolding least_fit
   none_left clear =
       least_none (fit (free map) from before step k) 0 before (λ t a b.
@@ -168,8 +167,8 @@ module _ (map : List ℕ) (n : ℕ) (summary : List ℕ) (from before step k : �
       (λ a. clash (all (since at (usable map n)) u k) (counts_since at u a h) (carried.none u (omega arith))) (order u at)
 
   found_own : (t end : ℕ) → end ≤ before → Clear t → from ≤ t → (s : ℕ)
-      → least_fit (free map) t end step k ≡ At s
-      → least_fit (free map) from before step k ≡ At s
+      → least_fit (free map) t end step k ≡ Some s
+      → least_fit (free map) from before step k ≡ Some s
   unfolding least_fit
   found_own t end in_all clear l s e =
       let h : Fits (free map) from before step k s = whole_fits (free map) from before step k t end in_all l s e in
@@ -184,7 +183,7 @@ module _ (map : List ℕ) (n : ℕ) (summary : List ℕ) (from before step k : �
           (λ a. stretch_below (free map) from before step k t end in_all l s u e a c h)
           (order u t)
 
-  clear_on : (t : ℕ) → Clear t → from ≤ t → least_fit (free map) t (min before (t + k + stretch step)) step k ≡ Nothing
+  clear_on : (t : ℕ) → Clear t → from ≤ t → least_fit (free map) t (min before (t + k + stretch step)) step k ≡ None
       → Clear (t + stretch step + 1)
   clear_on t clear l e u v h =
       let b : u + k ≤ before = h.high in
@@ -202,25 +201,25 @@ module _ (map : List ℕ) (n : ℕ) (summary : List ℕ) (from before step k : �
       (seek_true (usable map n) (power (length map)) summary at k some (own_right map n summary own) located)
       (λ at' a b c. turns_own d at' a b c)
     where
-      found : (t : ℕ) (r : Found) → least_fit (free map) t (min before (t + k + stretch step)) step k ≡ r → at ≤ t → t
+      found : (t : ℕ) (r : Option ℕ) → least_fit (free map) t (min before (t + k + stretch step)) step k ≡ r → at ≤ t → t
           + k ≤ before
           → Clear t
           → ((at' : ℕ) → from ≤ at' → before < d + at' → Clear at'
           → turns d map summary before step k at' ≡ least_fit (free map) from before step k)
           → or_else r (turns d map summary before step k (t + stretch step + 1)) ≡ least_fit (free map) from before step k
-      found t (At s) e a v clear' on =
+      found t (Some s) e a v clear' on =
           sym (found_own t (min before (t + k + stretch step)) (omega arith) clear' (omega arith) s e)
-      found t Nothing e a v clear' on =
+      found t None e a v clear' on =
           on (t + stretch step + 1) (omega arith) (omega arith) (clear_on t clear' (omega arith) e)
 
-      by : (r : Step) → seek summary (power (length map)) at k ≡ r → Bounds at k (0 + 64 * power (length map)) r
+      by : (r : ControlFlow ℕ ℕ) → seek summary (power (length map)) at k ≡ r → Bounds at k (0 + 64 * power (length map)) r
           → Knows (since at (usable map n)) k (0 + 64 * power (length map)) r
           → ((at' : ℕ) → from ≤ at' → before < d + at' → Clear at'
           → turns d map summary before step k at' ≡ least_fit (free map) from before step k)
           → turns (suc d) map summary before step k at ≡ least_fit (free map) from before step k
-      by (Next s) q b knows on =
+      by (Continue s) q b knows on =
           turn_none map summary before step k d at s q ∙ sym (none_left (clear_next at s clear knows))
-      by (Hit t) q b knows on =
+      by (Break t) q b knows on =
           ⊎_elim (λ v. turn_far map summary before step k d at t q v
           ∙ sym (none_left (λ u w h. clear_hit at t clear knows u (omega (arith, h.high)) h)))
           (λ v. turn_near map summary before step k d at t q v
@@ -255,13 +254,13 @@ module _ (map : List ℕ) (n : ℕ) (summary : List ℕ) (from before step k : �
   by_own =
       ⊎_elim (λ l. by_none map summary from before step k l ∙ sym (none_left (long_enough l)))
       (λ l. ap (λ (b : Bool). cond b (or_else (least_fit (free map) from (min before (from + near_of step k)) step k)
-      (search_down map summary from before step k)) Nothing) (le-leb k (group_in summary 0).longest l)
+      (search_down map summary from before step k)) None) (le-leb k (group_in summary 0).longest l)
       ∙ go (least_fit (free map) from (min before (from + near_of step k)) step k) refl)
       (order (group_in summary 0).longest k)
     where
-      go : (r : Found) → least_fit (free map) from (min before (from + near_of step k)) step k ≡ r
+      go : (r : Option ℕ) → least_fit (free map) from (min before (from + near_of step k)) step k ≡ r
           → or_else r (search_down map summary from before step k) ≡ least_fit (free map) from before step k
-      go Nothing q = down_own
-      go (At s) q =
+      go None q = down_own
+      go (Some s) q =
           sym (found_own from (min before (from + near_of step k)) (omega arith) (λ u v h. omega (arith, h.low)) (omega arith) s
           q)

@@ -1,5 +1,8 @@
 -- What the numbers of a true summary tell a search from block `at` on.
 -- Assumes nothing.
+use Rattle.std.specs.Prelude.{Option, Some, None}
+use Rattle.std.specs.declared.ops.ControlFlow.{ControlFlow}
+use Rattle.std.specs.declared.ops.ControlFlow.TheVariants.{Break, Continue}
 use mathlib.Core.Path.{◌≡◌, refl, sym, ap, ap₂, ◌∙◌, subst}
 use mathlib.Core.Logic.{⊎_elim}
 use mathlib.Core.Bool.{Bool, true, false, ◌&&◌, cond}
@@ -11,8 +14,6 @@ use borrow.Author.Tests.{le-leb, lt-leb, leb-true, leb-false, ltb-true, ltb-fals
 use Rattle.laws.proofs.Bools.{order, not_true}
 use Rattle.map_blocks.specs.Blocks.{all}
 use Rattle.map_blocks.proofs.Runs.{all_intro, all_elim, all_break}
-use Rattle.map_search_word.specs.declared.Step.{Step}
-use Rattle.map_search_word.specs.declared.Step.TheVariants.{Hit, Next}
 use Rattle.map_search_word.specs.Scan.{Carried}
 use Rattle.survey.specs.Survey.{blocks}
 use Rattle.survey_words.proofs.Joining.{tail_longest}
@@ -22,8 +23,6 @@ use Rattle.summary_groups.proofs.Ends.{HeadRun, TailRun, head_run, tail_run, lon
 use Rattle.summary_groups.proofs.Joins.{group_same}
 use Rattle.summary.specs.Summary.{group_in, group_at}
 use Rattle.summary.proofs.Sites.{group_at_lem}
-use Rattle.summary_search.specs.declared.Glance.{Glance}
-use Rattle.summary_search.specs.declared.Glance.TheVariants.{Settled, Look}
 use Rattle.summary_search.specs.SearchBy.{inside_of, whole_of, glance_of, or_look, onward, seek_in, seek}
 use Rattle.summary_search.specs.Seeking.{Located}
 use Rattle.summary_search.proofs.Bounds.{by_test}
@@ -67,13 +66,13 @@ abbrev pub NoneBefore : (ℕ → Bool) → ℕ → ℕ → Type 0
 NoneBefore f k t = (u : ℕ) → u < t → all f u k ≡ false
 
 -- what a search knows after a step, and after a glance at a group from block base on
-abbrev pub Knows : (ℕ → Bool) → ℕ → ℕ → Step → Type 0
-Knows f k end (Hit t) = NoneBefore f k t
-Knows f k end (Next s) = Carried f k end s
+abbrev pub Knows : (ℕ → Bool) → ℕ → ℕ → ControlFlow ℕ ℕ → Type 0
+Knows f k end (Break t) = NoneBefore f k t
+Knows f k end (Continue s) = Carried f k end s
 
-abbrev GlanceKnows : (ℕ → Bool) → ℕ → ℕ → ℕ → Glance → Type 0
-GlanceKnows f k low end (Settled r) = Knows f k end r
-GlanceKnows f k low end Look = NoneBefore f k low
+abbrev GlanceKnows : (ℕ → Bool) → ℕ → ℕ → ℕ → Option (ControlFlow ℕ ℕ) → Type 0
+GlanceKnows f k low end (Some r) = Knows f k end r
+GlanceKnows f k low end None = NoneBefore f k low
 
 none_since : (at k : ℕ) (f : ℕ → Bool) → 0 < k → NoneBefore (since at f) k at
 none_since at k f some u l = all_break (since at f) u k u (omega arith) (omega arith) (before_since at f u l)
@@ -163,26 +162,26 @@ module _ (f : ℕ → Bool) (at k base m s : ℕ) (x : Group) (some : 0 < k) (tr
       (glance_of x at k base m s)
   unfolding glance_of inside_of whole_of
   glance_knows before =
-      by_test (GlanceKnows (since at f) k (max at base) (base + m)) (leb (base + m) at) (Settled (Next 0))
+      by_test (GlanceKnows (since at f) k (max at base) (base + m)) (leb (base + m) at) (Some (Continue 0))
       (cond (ltb base at) (inside_of x at k (base + m)) (whole_of x k base m s)) (λ e. passed (leb-true (base + m) at e))
       (λ e. let l : at < base + m = leb-false (base + m) at e in
       by_test (GlanceKnows (since at f) k (max at base) (base + m)) (ltb base at) (inside_of x at k (base + m))
       (whole_of x k base m s)
       (λ q. let v : base < at = ltb-true base at q in
-      by_test (GlanceKnows (since at f) k (max at base) (base + m)) (leb k x.longest) Look
-      (Settled (Next (min (min x.tail x.longest) (base + m - at)))) (λ z u w. none_since at k f some u (omega arith))
+      by_test (GlanceKnows (since at f) k (max at base) (base + m)) (leb k x.longest) None
+      (Some (Continue (min (min x.tail x.longest) (base + m - at)))) (λ z u w. none_since at k f some u (omega arith))
       (λ z. inside v l (leb-false k x.longest z)))
       (λ q. let v : at ≤ base = ltb-false base at q in
-      by_test (GlanceKnows (since at f) k (max at base) (base + m)) (leb (k - s) x.head) (Settled (Hit (base - s)))
-      (cond (leb k x.longest) Look
-      (cond (eqb x.head m) (Settled (Next (s + m))) (Settled (Next (min (min x.tail x.longest) m)))))
+      by_test (GlanceKnows (since at f) k (max at base) (base + m)) (leb (k - s) x.head) (Some (Break (base - s)))
+      (cond (leb k x.longest) None
+      (cond (eqb x.head m) (Some (Continue (s + m))) (Some (Continue (min (min x.tail x.longest) m)))))
       (λ z. hit v before before.short)
       (λ z. let h : x.head < k - s = leb-false (k - s) x.head z in
-      by_test (GlanceKnows (since at f) k (max at base) (base + m)) (leb k x.longest) Look
-      (cond (eqb x.head m) (Settled (Next (s + m))) (Settled (Next (min (min x.tail x.longest) m))))
+      by_test (GlanceKnows (since at f) k (max at base) (base + m)) (leb k x.longest) None
+      (cond (eqb x.head m) (Some (Continue (s + m))) (Some (Continue (min (min x.tail x.longest) m))))
       (λ c u w. word v before h (leb-true k x.longest c) u (omega arith))
-      (λ c. by_test (GlanceKnows (since at f) k (max at base) (base + m)) (eqb x.head m) (Settled (Next (s + m)))
-      (Settled (Next (min (min x.tail x.longest) m))) (λ i. whole v before h (eqb-true x.head m i))
+      (λ c. by_test (GlanceKnows (since at f) k (max at base) (base + m)) (eqb x.head m) (Some (Continue (s + m)))
+      (Some (Continue (min (min x.tail x.longest) m))) (λ i. whole v before h (eqb-true x.head m i))
       (λ i. ending v before h (eqb-false x.head m i) (leb-false k x.longest c))))))
 
 -- ---- down the groups
@@ -194,16 +193,17 @@ module _ (f : ℕ → Bool) (p : ℕ) (summary : List ℕ) (at k : ℕ) (some : 
       own g (located_index p g base m l) ∙ group_at_lem f p g l.first l.size l.sited
       ∙ ap₂ (group_of f) (sym l.starts) (sym l.blocks)
 
-  looked : (low end : ℕ) (x : Glance) (deeper : Step) → GlanceKnows (since at f) k low end x
+  looked : (low end : ℕ) (x : Option (ControlFlow ℕ ℕ)) (deeper : ControlFlow ℕ ℕ) → GlanceKnows (since at f) k low end x
       → (NoneBefore (since at f) k low → Knows (since at f) k end deeper) → Knows (since at f) k end (or_look x deeper)
-  looked low end (Settled r) deeper b look = b
-  looked low end Look deeper b look = look b
+  looked low end (Some r) deeper b look = b
+  looked low end None deeper b look = look b
 
-  both : (base m : ℕ) (r : Step) (next : ℕ → Step) → m ≡ 2 * (m / 2) → Knows (since at f) k (base + m / 2) r
+  both : (base m : ℕ) (r : ControlFlow ℕ ℕ) (next : ℕ → ControlFlow ℕ ℕ) → m ≡ 2 * (m / 2)
+      → Knows (since at f) k (base + m / 2) r
       → ((s : ℕ) → Carried (since at f) k (base + m / 2) s → Knows (since at f) k (base + m / 2 + m / 2) (next s))
       → Knows (since at f) k (base + m) (onward r next)
-  both base m (Hit t) next even b on = b
-  both base m (Next s) next even b on =
+  both base m (Break t) next even b on = b
+  both base m (Continue s) next even b on =
       let e : base + m / 2 + m / 2 ≡ base + m = omega arith in
       subst (λ (end : ℕ). Knows (since at f) k end (next s)) e (on s b)
 
@@ -213,11 +213,11 @@ module _ (f : ℕ → Bool) (p : ℕ) (summary : List ℕ) (at k : ℕ) (some : 
   seek_knows zero g base m s l u before = absurd (omega (arith, located_least p g base m l))
   seek_knows (suc d) g base m s l u before =
       looked (max at base) (base + m) (glance_of (group_in summary g) at k base m s)
-      (cond (eqb m 64) (Hit (max at base))
+      (cond (eqb m 64) (Break (max at base))
       (onward (seek_in d summary at k (2 * g + 1) base (m / 2) s)
       (λ next. seek_in d summary at k (2 * g + 2) (base + m / 2) (m / 2) next)))
       (glance_knows f at k base m s (group_in summary g) some (group_true g base m l) before)
-      (λ none. by_test (Knows (since at f) k (base + m)) (eqb m 64) (Hit (max at base))
+      (λ none. by_test (Knows (since at f) k (base + m)) (eqb m 64) (Break (max at base))
       (onward (seek_in d summary at k (2 * g + 1) base (m / 2) s)
       (λ next. seek_in d summary at k (2 * g + 2) (base + m / 2) (m / 2) next)) (λ e. none)
       (λ e. let ne : (m ≡ 64 → ⊥) = eqb-false m 64 e in

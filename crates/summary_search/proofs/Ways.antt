@@ -1,17 +1,16 @@
 -- A search from group to group: what each step comes to, and that the search comes nearer to its end.
 -- Assumes nothing.
+use Rattle.std.specs.Prelude.{Some, None}
+use Rattle.std.specs.declared.ops.ControlFlow.{ControlFlow}
+use Rattle.std.specs.declared.ops.ControlFlow.TheVariants.{Break, Continue}
 use mathlib.Core.Path.{◌≡◌, refl, sym, ap, ap₂, ◌∙◌, subst}
 use mathlib.Core.Logic.{inl, inr, ⊎_elim}
 use mathlib.Core.List.{List}
 use Prim.Native.Nat.{ℕ, zero, suc, ◌+◌, ◌-◌, ◌*◌, ◌/◌, ◌%◌, ◌^◌, ◌≤◌, ◌<◌, max}
 use native.Mathlib.Omega.{arith}
-use Rattle.map_search_word.specs.declared.Step.{Step}
-use Rattle.map_search_word.specs.declared.Step.TheVariants.{Hit, Next}
 use Rattle.summary.specs.Summary.{group_in}
-use Rattle.summary_search.specs.declared.Place.{Place}
-use Rattle.summary_search.specs.declared.Glance.TheVariants.{Settled, Look}
 use Rattle.summary_search.specs.SearchBy.{glance_of, onward, seek_in}
-use Rattle.summary_search.specs.Seeking.{Lies, Way, Ahead, Passed, Ended, Stands, to_go, step_number}
+use Rattle.summary_search.specs.Seeking.{Lies, Way, Ahead, Passed, Ended}
 use Rattle.summary_search.proofs.Bounds.{Bounds, GlanceBounds, glance_bounds, seek_settled, seek_word, seek_halves}
 use Rattle.summary_search.proofs.Places.{Level, located_level, located_least, located-even, located-left, located_few}
 use Rattle.summary_search.proofs.Places.{located_small, lies_left, lies_right}
@@ -20,52 +19,31 @@ module _ (summary : List ℕ) (at k whole : ℕ) where
   -- ---- what comes of a group's step
 
   -- a start is the whole search's
-  way_hit : (j d g base m : ℕ) (on : Step → Step) → Way summary at k whole j d g base m on → (t : ℕ) → on (Hit t) ≡ Hit t
-  way_hit zero d g base m on w t = w.3 (Hit t)
+  way_hit : (j d g base m : ℕ) (on : ControlFlow ℕ ℕ → ControlFlow ℕ ℕ) → Way summary at k whole j d g base m on → (t : ℕ)
+      → on (Break t) ≡ Break t
+  way_hit zero d g base m on w t = w.3 (Break t)
   way_hit (suc j) d g base m on w t =
       let above = way_hit j (suc d) w.h w.start (2 * m) w.above w.way t in
-      ⊎_elim (λ f. f.2 (Hit t) ∙ above) (λ q. q.2 (Hit t) ∙ above) w.side
+      ⊎_elim (λ f. f.2 (Break t) ∙ above) (λ q. q.2 (Break t) ∙ above) w.side
 
-  pub way_inside : (j d g base m : ℕ) (on : Step → Step) → Way summary at k whole j d g base m on → base + m ≤ whole
+  pub way_inside : (j d g base m : ℕ) (on : ControlFlow ℕ ℕ → ControlFlow ℕ ℕ) → Way summary at k whole j d g base m on
+      → base + m ≤ whole
   way_inside zero d g base m on w = let a = w.1 in let b = w.2 in omega arith
   way_inside (suc j) d g base m on w =
       let u : w.start + 2 * m ≤ whole = way_inside j (suc d) w.h w.start (2 * m) w.above w.way in
       ⊎_elim (λ f. let e = f.1 in omega arith) (λ q. let e = q.1 in omega arith) w.side
 
   -- behind the last group there is none
-  way_last : (j d g base m : ℕ) (on : Step → Step) → Way summary at k whole j d g base m on → 0 < m → base + m ≡ whole
-      → (s : ℕ) → on (Next s) ≡ Next s
-  way_last zero d g base m on w pos end s = w.3 (Next s)
+  way_last : (j d g base m : ℕ) (on : ControlFlow ℕ ℕ → ControlFlow ℕ ℕ) → Way summary at k whole j d g base m on → 0 < m
+      → base + m ≡ whole
+      → (s : ℕ) → on (Continue s) ≡ Continue s
+  way_last zero d g base m on w pos end s = w.3 (Continue s)
   way_last (suc j) d g base m on w pos end s =
       let u : w.start + 2 * m ≤ whole = way_inside j (suc d) w.h w.start (2 * m) w.above w.way in
       ⊎_elim (λ f. let e = f.1 in absurd (omega arith))
       (λ q. let e = q.1 in
-      q.2 (Next s) ∙ way_last j (suc d) w.h w.start (2 * m) w.above w.way (omega arith) (omega arith) s)
+      q.2 (Continue s) ∙ way_last j (suc d) w.h w.start (2 * m) w.above w.way (omega arith) (omega arith) s)
       w.side
-
-  -- ---- where the search stands
-
-  pub passed_in : (p : Place) → Stands summary at k whole p → p.stage ≡ 1
-      → Passed summary at k whole p.g p.base p.m p.s
-  passed_in p s e =
-      ⊎_elim (λ a. absurd (omega (arith, a.0, e))) (λ b. ⊎_elim (λ x. x.1) (λ y. absurd (omega (arith, y.0, e))) b) s
-
-  pub ahead_in : (p : Place) → Stands summary at k whole p → p.stage < 2 → (p.stage ≡ 1 → ⊥)
-      → Ahead summary at k whole p.g p.base p.m p.s
-  ahead_in p s l ne =
-      ⊎_elim (λ a. a.1) (λ b. ⊎_elim (λ x. absurd (ne x.0)) (λ y. absurd (omega (arith, y.0, l))) b) s
-
-  pub ended_in : (p : Place) → Stands summary at k whole p → 2 ≤ p.stage → Ended summary at k whole p.s
-  ended_in p s l =
-      ⊎_elim (λ a. absurd (omega (arith, a.0, l))) (λ b. ⊎_elim (λ x. absurd (omega (arith, x.0, l))) (λ y. y.1) b) s
-
-  pub is_ahead : (p : Place) → Stands summary at k whole p → p.stage < 2 → (p.stage ≡ 1 → ⊥) → p.stage ≡ 0
-  is_ahead p s l ne = let q : p.stage ≡ 1 → ⊥ = ne in go p.stage l q
-    where
-      go : (n : ℕ) → n < 2 → (n ≡ 1 → ⊥) → n ≡ 0
-      go zero u v = refl
-      go (suc zero) u v = absurd (v refl)
-      go (suc (suc n)) u v = absurd (omega arith)
 
   -- ---- from a group that is passed
   module _ (g base m s : ℕ) (p : Passed summary at k whole g base m s) where
@@ -78,11 +56,8 @@ module _ (summary : List ℕ) (at k whole : ℕ) where
     pub passed-few : g ≤ 8192
     passed-few = located_few p.lies.words g base m p.lies.located
 
-    pub none-behind : base + m ≡ whole → Ended summary at k whole (2 ^ 31 + s)
-    none-behind end = record {
-      gives = sym (ap step_number (p.comes
-          ∙ way_last p.j (suc p.d) g base m p.on p.way (omega (arith, passed-least)) end s));
-    }
+    pub none-behind : base + m ≡ whole → Ended summary at k whole (Continue s)
+    none-behind end = sym (p.comes ∙ way_last p.j (suc p.d) g base m p.on p.way (omega (arith, passed-least)) end s)
 
     pub second_half_lem : g % 2 ≡ 1 → Ahead summary at k whole (g + 1) (base + m) m s
     second_half_lem odd = go p.j p.way
@@ -116,7 +91,7 @@ module _ (summary : List ℕ) (at k whole : ℕ) where
               enough = p.enough;
               behind = p.behind;
               short = p.short;
-              comes = p.comes ∙ f.2 (Next s)
+              comes = p.comes ∙ f.2 (Continue s)
                   ∙ ap₂ (λ (x y : ℕ). w.above (seek_in (suc p.d) summary at k x y m s)) (sym n) (sym b);
             })
             (λ q. let e = q.0 in absurd (omega arith))
@@ -154,7 +129,7 @@ module _ (summary : List ℕ) (at k whole : ℕ) where
                     behind = λ l. let u = p.behind (omega (arith, q.1, l)) in omega (arith, u, q.1);
                     few = omega (arith, p.few, q.1);
                     short = p.short;
-                    comes = p.comes ∙ q.2 (Next s);
+                    comes = p.comes ∙ q.2 (Continue s);
                   }));
             })
             w.side
@@ -173,23 +148,20 @@ module _ (summary : List ℕ) (at k whole : ℕ) where
     bounded : GlanceBounds at k (base + m) (glance_of (group_in summary g) at k base m s)
     bounded = glance_bounds (group_in summary g) at k base m s (omega (arith, ahead-least)) a.short a.behind
 
-    found : (t : ℕ) → seek_in (suc a.d) summary at k g base m s ≡ Hit t → Ended summary at k whole t
-    found t e = record {
-      gives = sym (ap step_number (a.comes ∙ ap a.on e
-          ∙ way_hit a.j (suc a.d) g base m a.on a.way t));
-    }
+    found : (t : ℕ) → seek_in (suc a.d) summary at k g base m s ≡ Break t → Ended summary at k whole (Break t)
+    found t e = sym (a.comes ∙ ap a.on e ∙ way_hit a.j (suc a.d) g base m a.on a.way t)
 
-    pub told-hit : (t : ℕ) → glance_of (group_in summary g) at k base m s ≡ Settled (Hit t) → Ended summary at k whole t
-    told-hit t e = found t (seek_settled summary at k a.d g base m s (Hit t) e)
+    pub told-hit : (t : ℕ) → glance_of (group_in summary g) at k base m s ≡ Some (Break t) → Ended summary at k whole (Break t)
+    told-hit t e = found t (seek_settled summary at k a.d g base m s (Break t) e)
 
-    pub in_word : glance_of (group_in summary g) at k base m s ≡ Look → m ≡ 64 → (x : ℕ) → x ≡ max at base
-        → Ended summary at k whole x
-    in_word look e x q = found x (seek_word summary at k a.d g base m s look e ∙ ap Hit (sym q))
+    pub in_word : glance_of (group_in summary g) at k base m s ≡ None → m ≡ 64 → (x : ℕ) → x ≡ max at base
+        → Ended summary at k whole (Break x)
+    in_word look e x q = found x (seek_word summary at k a.d g base m s look e ∙ ap Break (sym q))
 
-    pub told-next : (c : ℕ) → glance_of (group_in summary g) at k base m s ≡ Settled (Next c)
+    pub told-next : (c : ℕ) → glance_of (group_in summary g) at k base m s ≡ Some (Continue c)
         → Passed summary at k whole g base m c
     told-next c e =
-        let b : Bounds at k (base + m) (Next c) = subst (GlanceBounds at k (base + m)) e bounded in
+        let b : Bounds at k (base + m) (Continue c) = subst (GlanceBounds at k (base + m)) e bounded in
         record {
           j = a.j;
           d = a.d;
@@ -200,10 +172,10 @@ module _ (summary : List ℕ) (at k whole : ℕ) where
           behind = b.2;
           few = b.1;
           short = b.0;
-          comes = a.comes ∙ ap a.on (seek_settled summary at k a.d g base m s (Next c) e);
+          comes = a.comes ∙ ap a.on (seek_settled summary at k a.d g base m s (Continue c) e);
         }
 
-    pub first_half_lem : glance_of (group_in summary g) at k base m s ≡ Look → (m ≡ 64 → ⊥)
+    pub first_half_lem : glance_of (group_in summary g) at k base m s ≡ None → (m ≡ 64 → ⊥)
         → Ahead summary at k whole (2 * g + 1) base (m / 2) s
     first_half_lem look ne = go a.d a.enough a.way a.comes
       where
@@ -256,10 +228,3 @@ first_ahead summary at k m lies some =
       short = some;
       comes = ap (λ (d : ℕ). seek_in d summary at k 0 0 m 0) (sym whole);
     }
-
--- ---- how far there is to go
-pub to_go_ahead : (stage g base m : ℕ) → stage ≡ 0 → to_go stage g base m ≡ (262144 - base) * 1000000 + m
-to_go_ahead stage g base m e = ap (λ (x : ℕ). to_go x g base m) e
-
-pub to_go_passed : (stage g base m : ℕ) → stage ≡ 1 → to_go stage g base m ≡ (262144 - (base + m)) * 1000000 + 500000 + g
-to_go_passed stage g base m e = ap (λ (x : ℕ). to_go x g base m) e

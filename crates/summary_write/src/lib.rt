@@ -11,10 +11,10 @@ ghost use Rattle.summary_groups.specs.declared.Group.{Group as Told};
 ghost use Rattle.summary.specs.Walks.{with_group, halves_of, Builds, Decides};
 ghost use Rattle.summary_write.specs.Climbs.{Joins, Stores, Rises, Stands, Comes};
 
-use summary::{agree, free_word, read, words_of};
+use summary::{free_word, read, words_of};
 use summary_groups::{Group, joined, word_group};
 
-// Stores group g of a summary.
+// Stores group g of a summary, which C lends as numbers in a row.
 fn store(summary: &mut [u32], g: usize, group: Group)
     requires { (g ≤ 16384) × (3 * g + 2 < length summary.old) }
     ensures { summary.new ≡ with_group summary.old g group }
@@ -63,10 +63,8 @@ fn store_leaves(map: &[u64], n: u32, summary: &mut [u32], leaf: usize, lo: usize
     ensures { (aim : ℕ → Told) → ((i : ℕ) → lo ≤ i → i < hi → group_of (usable map.now n) (64 * i) 64 ≡ aim (leaf + i))
         → Stores aim summary.old summary.new (leaf + lo) (leaf + hi) }
 {
-    let mut i = lo;
-    while i < hi {
+    for i in lo..hi {
         store_word(summary, leaf + i, free_word(map, n, i));
-        i += 1;
     }
 }
 
@@ -76,10 +74,8 @@ fn store_joins(summary: &mut [u32], g: usize, stop: usize, half: usize)
     ensures { (aim : ℕ → Told) → Joins aim summary.old g stop half
         → Stores aim summary.old summary.new g stop }
 {
-    let mut i = g;
-    while i < stop {
+    for i in g..stop {
         store_joined(summary, i, half);
-        i += 1;
     }
 }
 
@@ -89,7 +85,7 @@ fn restore(summary: &mut [u32], g: usize, group: Group) -> bool
     ensures { Decides result (group_in summary.old g ≡ group)
         × (summary.new ≡ with_group summary.old g group) }
 {
-    let same = agree(read(summary, g), group);
+    let same = read(summary, g) == group;
     store(summary, g, group);
     same
 }

@@ -5,7 +5,7 @@
 ghost use Rattle.std.specs.Prelude.{◌≡◌, Bool, List, ◌++◌, ◌+◌, ◌*◌, ◌≤◌, ◌/◌, length};
 ghost use Rattle.map_blocks.specs.Blocks.{free};
 ghost use Rattle.map_blocks.specs.Maps.{words_for};
-ghost use Rattle.survey_bytes.specs.Bytes.{bits_of, Ruled};
+ghost use Rattle.survey_bytes.specs.Bytes.{bits_of};
 ghost use Rattle.survey_words.specs.Passing.{Summary};
 ghost use Rattle.survey.specs.Survey.{counts_of};
 ghost use Rattle.survey.specs.Words.{Before};
@@ -13,7 +13,7 @@ ghost use Rattle.survey.specs.Words.{Before};
 mod table;
 
 use map_blocks::word::{ONES, part};
-use survey_bytes::bytes_apart;
+use survey_bytes::{Table, bytes_apart};
 use survey_words::{
     Passed, bytes_short, prepend_word_apart, prepend_word_joined, prepend_word_short,
 };
@@ -28,24 +28,17 @@ pub struct Counts {
 }
 
 // A word before the blocks passed. A word with no free block needs no table.
-fn prepend_word(table: &[u8; 512], passed: Passed, w: u64) -> Passed
-    requires ruled { Ruled table.now }
-    requires head_bound { (passed.head ≤ 15000000) × (passed.runs ≤ 15000000) }
+fn prepend_word(table: &Table, passed: Passed, w: u64) -> Passed
+    requires { (passed.head ≤ 15000000) × (passed.runs ≤ 15000000) }
     ensures summary { (ys : List Bool) → Summary passed.head passed.longest passed.runs ys
         → Summary result.head result.longest result.runs (bits_of 64 w ++ ys) }
     ensures head_bound_2 { (result.head ≤ passed.head + 2040) × (result.runs ≤ passed.runs + 2040) }
 {
     if w == 0 {
-        return Passed {
-            head: 0,
-            longest: passed.longest,
-            runs: passed.runs,
-        };
+        return Passed { head: 0, ..passed };
     }
-    if 14 <= passed.longest {
-        if bytes_short(w) {
-            return prepend_word_short(table, passed, w);
-        }
+    if 14 <= passed.longest && bytes_short(w) {
+        return prepend_word_short(table, passed, w);
     }
     if bytes_apart(w) {
         return prepend_word_apart(table, passed, w);
@@ -69,24 +62,23 @@ pub fn survey(map: &[u64], n: u32) -> Counts
     requires { (n ≤ 262144) × (n ≤ 64 * length map.now) }
     ensures { result ≡ counts_of (free map.now) n }
 {
-    let table = TABLE;
-    let mut free: u32 = 0;
+    let table = Table::new(TABLE);
+    let mut free = 0;
     let mut passed = Passed {
         head: 0,
         longest: 0,
         runs: 0,
     };
-    let mut i = ((n + 63) / 64) as usize;
     let mut mask = last_part(n);
-    while 0 < i {
-        i -= 1;
+    let words = n.div_ceil(64) as usize;
+    for i in (0..words).rev() {
         let w = map[i] & mask;
-        free += u64::count_ones(w);
+        free += w.count_ones();
         passed = prepend_word(&table, passed, w);
         mask = ONES;
     }
     Counts {
-        free: free,
+        free,
         runs: passed.runs,
         longest: passed.longest,
     }

@@ -3,18 +3,12 @@
 use mathlib.Core.Path.{◌≡◌, refl}
 use mathlib.Core.Bool.{Bool, true, false, cond}
 use mathlib.Core.List.{List, [], ◌∷◌}
-use Prim.Native.Nat.{ℕ, suc, ◌+◌, ◌*◌, ◌/◌, ◌%◌, ◌<◌, ◌≤◌}
+use Prim.Native.Nat.{ℕ, suc, ◌+◌, ◌≤◌}
 use native.Mathlib.Omega.{arith}
 use lib.Dec.{eqb}
 use lib.ListN.{length}
 use Rattle.survey_bytes.specs.Runs.{head_of, runs_of}
-use Rattle.survey_bytes.specs.Bytes.{bits_of, column}
-
-pub columns : (i k b : ℕ) → i ≡ 2 * b + k → k < 2 → column (i % 2) (bits_of 8 (i / 2)) ≡ column k (bits_of 8 b)
-columns i k b e h =
-    let p : i % 2 ≡ k = omega arith in
-    let q : i / 2 ≡ b = omega arith in
-    rw (p, q)
+use Rattle.survey_bytes.specs.Bytes.{bits_of}
 
 pub eight : (n : ℕ) → length (bits_of 8 n) ≡ 8
 unfolding bits_of

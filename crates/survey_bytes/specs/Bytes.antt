@@ -15,9 +15,8 @@ column zero xs = longest_of xs
 column (suc c) xs = runs_of xs
 
 -- The table's rule: row b holds the two columns of the byte b.
-unfoldable pub Ruled : List ℕ → Type 0
-unfolding column bits_of
-Ruled table = (i : ℕ) → i < 512 → get_or table i 0 ≡ column (i % 2) (bits_of 8 (i / 2))
+abbrev pub Ruled : List (ℕ × ℕ) → Type 0
+Ruled rows = (b : ℕ) → b < 256 → get_or rows b (0, 0) ≡ (column 0 (bits_of 8 b), column 1 (bits_of 8 b))
 
 -- No run goes on from one of the k + 1 last bytes of w into the next: of the last bit of a byte and the first bit of the
 -- next, one is 0.

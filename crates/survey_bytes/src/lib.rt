@@ -5,7 +5,7 @@
 
 ghost use Rattle.std.specs.Prelude.{◌≡◌, true, cond, ◌+◌, ◌<◌, ◌≤◌, ◌/◌, ◌%◌, eqb};
 ghost use Rattle.survey_bytes.specs.Runs.{head_of, tail_of, longest_of, runs_of, meet};
-ghost use Rattle.survey_bytes.specs.Bytes.{bits_of, column, Ruled, Apart, crossed};
+ghost use Rattle.survey_bytes.specs.Bytes.{bits_of, Ruled, Apart, crossed};
 
 // The last bits of seven bytes.
 const LAST_BITS: u64 = 0x0001_0101_0101_0101;
@@ -25,28 +25,33 @@ pub fn byte_tail(w: u64) -> u32
     u32::trailing_zeros((w % 256) as u32 + 1)
 }
 
-// One number of the table.
-fn entry(table: &[u8; 512], i: usize) -> u8
-    requires { (i < 512) × Ruled table.now }
-    ensures { result ≡ column (i % 2) (bits_of 8 (i / 2)) }
-{
-    table[i]
+// The table of bytes, by its rule: a row to each byte, with its longest run and its number of runs.
+#[derive(Clone, Copy)]
+pub struct Table {
+    rows: [(u8, u8); 256],
+    ghost ruled: { Ruled rows },
 }
 
-// The longest run of the last byte of w.
-pub fn byte_longest(table: &[u8; 512], w: u64) -> u8
-    requires { Ruled table.now }
-    ensures { result ≡ longest_of (bits_of 8 (w % 256)) }
-{
-    entry(table, 2 * ((w % 256) as usize))
-}
+impl Table {
+    pub fn new(rows: [(u8, u8); 256]) -> Table
+        requires { Ruled rows }
+    {
+        Table { rows }
+    }
 
-// The runs of the last byte of w.
-pub fn byte_runs(table: &[u8; 512], w: u64) -> u8
-    requires { Ruled table.now }
-    ensures { (result ≡ runs_of (bits_of 8 (w % 256))) × (result ≤ 8) }
-{
-    entry(table, 2 * ((w % 256) as usize) + 1)
+    // The longest run of the last byte of w.
+    pub fn byte_longest(&self, w: u64) -> u8
+        ensures { result ≡ longest_of (bits_of 8 (w % 256)) }
+    {
+        self.rows[(w % 256) as usize].0
+    }
+
+    // The runs of the last byte of w.
+    pub fn byte_runs(&self, w: u64) -> u8
+        ensures { (result ≡ runs_of (bits_of 8 (w % 256))) × (result ≤ 8) }
+    {
+        self.rows[(w % 256) as usize].1
+    }
 }
 
 // The free blocks at the head of a byte, which has h, before others, which have head.

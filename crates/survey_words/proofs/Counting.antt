@@ -4,7 +4,7 @@ use mathlib.Core.Path.{◌≡◌, refl, ap, ap₂, ◌∙◌}
 use mathlib.Core.Bool.{Bool}
 use mathlib.Core.Logic.{⊎_elim}
 use mathlib.Core.List.{List, [], ◌++◌}
-use Prim.Native.Nat.{ℕ, zero, suc, ◌+◌, ◌/◌, ◌%◌, ◌<◌, ◌≤◌, min}
+use Prim.Native.Nat.{ℕ, zero, suc, ◌+◌, ◌-◌, ◌/◌, ◌%◌, ◌<◌, ◌≤◌, min}
 use native.Mathlib.Omega.{arith}
 use Rattle.laws.proofs.Bools.{order}
 use Rattle.survey_bytes.specs.Runs.{head_of, tail_of, runs_of, meet}
@@ -83,3 +83,16 @@ pub runs_word_lem : (w t n head runs r : ℕ) → t ≡ tail_of (bits_of 8 (w % 
 runs_word_lem w t n head runs r et en er ys eh es =
     let q : meet t head ≡ meet (tail_of (bits_of 8 (w % 256))) (head_of ys) = ap₂ meet et eh in
     omega (arith, counted w ys, q)
+
+-- one byte more, and all of them, of the eight of a word
+pub runs_more : (i w : ℕ) → i < 8 → runs_in (8 - i) w ≡ runs_of (bits_of 8 (w % 256)) + runs_in (8 - (i + 1)) (w / 256)
+unfolding runs_in
+runs_more i w few =
+    let e : 8 - i ≡ suc (8 - (i + 1)) = omega arith in
+    ap (λ (k : ℕ). runs_in k w) e
+
+pub runs_all : (i w : ℕ) → 8 ≤ i → runs_in (8 - i) w ≡ 0
+unfolding runs_in
+runs_all i w full =
+    let e : 8 - i ≡ 0 = omega arith in
+    ap (λ (k : ℕ). runs_in k w) e

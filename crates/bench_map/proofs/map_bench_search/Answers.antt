@@ -14,15 +14,9 @@ pub search-requires : goal.search-requires
 search-requires c = let within = fits _ _ (sym c.within_limits.ensures ∙ c.if-within_limits.true) in
     (within.0, within.1, search rules)
 
-pub returns-in-At : goal.returns-in-At
-returns-in-At c = ap start_for (sym c.in-At.is ∙ c.search.ensures)
-    ∙ search_within _ _ _ (search rules)
-    (sym c.within_limits.ensures ∙ c.if-within_limits.true)
-
-pub returns-in-Nothing : goal.returns-in-Nothing
-returns-in-Nothing c = ap start_for (sym c.in-Nothing.is ∙ c.search.ensures)
-    ∙ search_within _ _ _ (search rules)
-    (sym c.within_limits.ensures ∙ c.if-within_limits.true)
+pub returns-then-within_limits : goal.returns-then-within_limits
+returns-then-within_limits c = c.unwrap_or.ensures ∙ ap start_for c.search.ensures
+    ∙ search_within _ _ _ (search rules) (sym c.within_limits.ensures ∙ c.if-within_limits.true)
 
 pub returns-else-within_limits : goal.returns-else-within_limits
 returns-else-within_limits c = search_outside _ _ _ (search rules) (sym c.within_limits.ensures ∙ c.if-within_limits.false)

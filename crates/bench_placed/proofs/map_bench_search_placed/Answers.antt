@@ -22,13 +22,8 @@ pub search_placed-requires : goal.search_placed-requires
 search_placed-requires c = let within = fits _ _ (sym c.within_limits.ensures ∙ c.if-within_limits.true) in
     (omega (arith, within.0), omega (arith, within.1), search rules, search rules)
 
-pub returns-in-At : goal.returns-in-At
-returns-in-At c = ap start_for (sym c.in-At.is ∙ c.search_placed.ensures)
-    ∙ placed_within _ _ _ _ _ _ (search rules) (search rules) (search rules)
-    (sym c.within_limits.ensures ∙ c.if-within_limits.true)
-
-pub returns-in-Nothing : goal.returns-in-Nothing
-returns-in-Nothing c = ap start_for (sym c.in-Nothing.is ∙ c.search_placed.ensures)
+pub returns-then-within_limits : goal.returns-then-within_limits
+returns-then-within_limits c = c.unwrap_or.ensures ∙ ap start_for c.search_placed.ensures
     ∙ placed_within _ _ _ _ _ _ (search rules) (search rules) (search rules)
     (sym c.within_limits.ensures ∙ c.if-within_limits.true)
 

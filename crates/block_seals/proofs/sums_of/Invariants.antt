@@ -3,7 +3,7 @@
 -- Assumes nothing.
 
 use mathlib.Core.Path.{◌≡◌}
-use Prim.Native.Nat.{◌≤◌, ◌-◌, ◌*◌, ◌+◌, ◌%◌}
+use Prim.Native.Nat.{◌≤◌, ◌*◌, ◌+◌, ◌%◌}
 use lib.ListN.{drop}
 use Rattle.block_seals.specs.Sealed.{sums}
 use Rattle.block_seals.proofs.sums_of.Given as goal
@@ -17,6 +17,3 @@ invariant-loop-i l = (l.i ≤ 504)
     × (2 * l.odd ≤ 255 * l.i)
     × (l.evens ≤ 32130 * l.i)
     × (l.odds ≤ 32130 * l.i)
-
-abbrev pub decreases-loop-i : goal.decreases-loop-i
-decreases-loop-i l = 504 - l.i

@@ -1,47 +1,55 @@
--- `call_release::release` meets its contract: turned away by role, or what the rows behind 21 say.
+-- `call_release::release` meets its contract: a refusal changes nothing, and else the map is what `mark` leaves.
 -- Assumes nothing.
 
-use mathlib.Core.Path.{◌≡◌, refl, sym, subst, ◌∙◌}
-use mathlib.Core.Bool.{Bool, true, false}
+use mathlib.Core.Path.{◌≡◌, refl, sym, ap, subst, ◌∙◌}
+use mathlib.Core.Bool.{true}
 use mathlib.Core.List.{List}
 use Prim.Native.Nat.{ℕ}
-use Rattle.catalogue_standings.specs.Rows.{refused}
+use native.Mathlib.Omega.{arith}
+use lib.ListN.{length}
+use Rattle.map_blocks.proofs.Maps.{marked_length}
+use Rattle.catalogue_standings.specs.Rows.{accepted}
 use Rattle.roles.specs.Roles as names
-use Rattle.roles.specs.Roles.{turned_away}
-use Rattle.refusals.specs.Effects.{release_verdict, release_out, release_map, release_summary}
-use Rattle.refusals.specs.Lent.{Lent, lent_beside, called_by, no_card}
-use Rattle.refusals.specs.Table.{on, release}
-use Rattle.refusals.specs.Views.{view_at}
-use Rattle.refusals.specs.declared.Out.{Out}
-use Rattle.refusals.proofs.Release.{out}
-use Rattle.refusals.proofs.Turned.{turned_first}
+use Rattle.refusals.specs.Guides.{guide_fits, guide_after}
+use Rattle.refusals.specs.Lent.{lent_for, no_card}
+use Rattle.refusals.proofs.Release.{out, released}
 use Rattle.call_release.proofs.release.Goals as goal
 
-turned-verdict : (q : Lent) → q.turned ≡ true → release_verdict q ≡ refused 21
-unfolding release_verdict view_at
-turned-verdict q e = turned_first (view_at q) (on q.sheet release) e
+pub returns-in-Err : goal.returns-in-Err
+returns-in-Err c =
+    let a = c.args in
+    let q = lent_for a.asked names.release a.guided a.summary.now a.map.now no_card in
+    out q _ c.in-Err.ensures _ _ _ c.refusal.ensures refl refl
 
--- one who may make the call is not turned away
-allowed : (q : Lent) (t : Bool) (r : Out) (map summary : List ℕ) → t ≡ false
-    → (r ≡ release_out (called_by false q)) × (map ≡ release_map (called_by false q))
-    × (summary ≡ release_summary (called_by false
-    q))
-    → (r ≡ release_out (called_by t q)) × (map ≡ release_map (called_by t q)) × (summary ≡ release_summary (called_by t q))
-allowed q t r map summary e h =
-    subst (λ (u : Bool). (r ≡ release_out (called_by u q)) × (map ≡ release_map (called_by u q))
-    × (summary ≡ release_summary (called_by u q))) (sym e) h
+pub mark-requires : goal.mark-requires
+mark-requires c =
+    let a = c.args in
+    let r = released (lent_for a.asked names.release a.guided a.summary.now a.map.now no_card) c.in_default.ensures in
+    (omega (arith, r.sizes.limit, r.extent.inside), omega (arith, r.sizes.covered, r.extent.inside))
 
-pub returns-then-turned_away : goal.returns-then-turned_away
-returns-then-turned_away c = let a = c.args in
-    let q = called_by (turned_away a.role names.release)
-    (lent_beside a.guided a.summary.now a.n a.free a.map.now no_card a.c a.entry a.sheet) in
-    out q (refused 21) (turned-verdict q (sym c.turned_away.ensures ∙ c.if-turned_away.true)) _ _ _
-    c.refusal.ensures refl refl
+pub follow-requires : goal.follow-requires
+follow-requires c =
+    let a = c.args in
+    let r = released (lent_for a.asked names.release a.guided a.summary.now a.map.now no_card) c.in_default.ensures in
+    let same : length c.mark.new.map ≡ length a.map.now =
+    ap length c.mark.ensures ∙ marked_length a.map.now a.asked.entry.start a.asked.entry.length true in (
+      omega (arith, r.sizes.words, r.sizes.limit),
+      omega (arith, r.sizes.covered),
+      omega (arith, r.sizes.covered, r.extent.inside),
+      subst (λ (w : ℕ). guide_fits a.guided a.summary.now w ≡ true) (sym same) r.guides,
+    )
+
+pub overflow_add-result : goal.overflow_add-result
+overflow_add-result c =
+    let a = c.args in
+    let r = released (lent_for a.asked names.release a.guided a.summary.now a.map.now no_card) c.in_default.ensures in
+    omega (arith, r.room, r.sizes.limit)
 
 pub returns : goal.returns
-returns c = let start = c in
-    let a = start.args in
-    allowed
-    (lent_beside a.guided a.summary.now a.n a.free a.map.now no_card a.c a.entry a.sheet)
-    (turned_away a.role names.release) _ _ _ (sym start.turned_away.ensures ∙ c.if-turned_away.false)
-    c.release_allowed.ensures
+returns c =
+    let a = c.args in
+    let q = lent_for a.asked names.release a.guided a.summary.now a.map.now no_card in
+    out q accepted c.in_default.ensures _ _ _ refl c.mark.ensures
+    (c.follow.ensures
+    ∙ ap (λ (m : List ℕ). guide_after a.guided a.summary.now m a.asked.n a.asked.entry.start a.asked.entry.length)
+    c.mark.ensures)

@@ -2,7 +2,10 @@
 -- Assumes nothing.
 -- fresh fits, test by test
 
-use mathlib.Core.Path.{◌≡◌, refl, sym, ap, ◌∙◌}
+use Rattle.catalogue_standings.specs.Refusals.{number}
+use Rattle.catalogue_standings.specs.declared.Refusal.{Refusal}
+use Rattle.std.proofs.lemmas.Result.{err_from_is_err_and}
+use mathlib.Core.Path.{◌≡◌, sym, ap, ◌∙◌}
 use mathlib.Core.Bool.{Bool, true, false, not}
 use mathlib.Core.List.{List, []}
 use Prim.Native.Nat.{ℕ}
@@ -10,11 +13,11 @@ use native.Mathlib.Omega.{arith}
 use lib.ListN.{length}
 use Rattle.map_blocks.specs.Maps as maps
 use Rattle.catalogue_standings.specs.Limits.{shape_fits, sheets_fit, fresh_fits}
-use Rattle.catalogue_standings.specs.Rows.{Verdict, accepted, refused, settle, row_number}
+use Rattle.catalogue_standings.specs.Rows.{Verdict, accepted, refused, settle}
 use Rattle.catalogue_standings.proofs.Limits.{fits}
 use Rattle.catalogue_standings.proofs.Openings.{skip, stop, none_left}
 use Rattle.catalogue_standings.proofs.Tested.{fails, holds}
-use Rattle.call_search.specs.Answers.{fresh_verdict, fresh_number, fresh_map}
+use Rattle.call_search.specs.Answers.{fresh_verdict, fresh_map}
 use Rattle.call_search.proofs.fresh.Goals as goal
 
 module _ (n maplen c : ℕ) where
@@ -30,13 +33,11 @@ module _ (n maplen c : ℕ) where
   unfolding fresh_fits
   both e d = simp (e, d)
 
--- the number and the map, by the verdict
-module _ (turned : Bool) (n : ℕ) (map after : List ℕ) (c : ℕ) where
-  settled : (v : Verdict) → fresh_verdict turned n (length map) c ≡ v
-      → after ≡ settle v (maps.fresh_map n (length map)) (λ number. map)
-      → (row_number v ≡ fresh_number turned n map c) × (after ≡ fresh_map turned n map c)
-  settled v e h =
-      (ap row_number (sym e), h ∙ ap (λ (w : Verdict). settle w (maps.fresh_map n (length map)) (λ number. map)) (sym e))
+-- the map, by the verdict
+module _ (turned : Bool) (n : ℕ) (map : List ℕ) (c : ℕ) where
+  left : {v : Verdict} → fresh_verdict turned n (length map) c ≡ v
+      → settle v (maps.fresh_map n (length map)) (λ number. map) ≡ fresh_map turned n map c
+  left h = ap (λ (v : Verdict). settle v (maps.fresh_map n (length map)) (λ number. map)) (sym h)
 
   away : turned ≡ true → fresh_verdict turned n (length map) c ≡ refused 21
   unfolding fresh_verdict
@@ -51,40 +52,40 @@ module _ (turned : Bool) (n : ℕ) (map after : List ℕ) (c : ℕ) where
     unfolding fresh_verdict
     passes e = skip 21 _ _ accepted may (skip 1 _ [] accepted (ap not e) none_left)
 
-pub returns-then-turned_away : goal.returns-then-turned_away
-returns-then-turned_away c = let a = c.args in
-    settled _ a.n a.map.now a.map.now a.c (refused 21)
-    (away _ a.n a.map.now a.map.now a.c (sym c.turned_away.ensures ∙ c.if-turned_away.true)) refl
+pub returns-in_err-permit : goal.returns-in_err-permit
+returns-in_err-permit c =
+    let a = c.args in
+    let told = away _ a.n a.map.now a.c c.in_err-permit.ensures.0 in
+    let p = err_from_is_err_and c.from_residual.result c.from_residual.ensures.1 in
+    rw (p.1, p.2) (
+      told ∙ ap (λ (why : Refusal). refused (number why)) (sym c.in_err-permit.ensures.1),
+      left _ a.n a.map.now a.c told,
+    )
 
 pub returns-then-not-shape_fits : goal.returns-then-not-shape_fits
-returns-then-not-shape_fits c = let role = c in
-    let a = role.args in
-    settled _ a.n a.map.now a.map.now a.c (refused 1)
-    (shut _ a.n a.map.now a.map.now a.c (sym role.turned_away.ensures ∙ role.if-turned_away.false)
-    (no-shape _ _ a.c (fails c.shape_fits.ensures c.if-not-shape_fits.true-raw))) refl
+returns-then-not-shape_fits c =
+    let a = c.args in
+    let told = shut _ a.n a.map.now a.c c.in_ok-permit.ensures
+    (no-shape _ _ a.c (fails c.shape_fits.ensures c.if-not-shape_fits.true-raw)) in
+    (told, left _ a.n a.map.now a.c told)
 
 pub returns-then-not-sheets_fit : goal.returns-then-not-sheets_fit
-returns-then-not-sheets_fit c = let shape = c in
-    let role = shape in
-    let a = role.args in
-    settled _ a.n a.map.now a.map.now a.c (refused 1)
-    (shut _ a.n a.map.now a.map.now a.c (sym role.turned_away.ensures ∙ role.if-turned_away.false)
-    (no-sheets _ _ a.c (holds shape.shape_fits.ensures shape.if-not-shape_fits.false-raw)
-    (fails c.sheets_fit.ensures c.if-not-sheets_fit.true-raw))) refl
+returns-then-not-sheets_fit c =
+    let a = c.args in
+    let told = shut _ a.n a.map.now a.c c.in_ok-permit.ensures
+    (no-sheets _ _ a.c (holds c.shape_fits.ensures c.if-not-shape_fits.false-raw)
+    (fails c.sheets_fit.ensures c.if-not-sheets_fit.true-raw)) in
+    (told, left _ a.n a.map.now a.c told)
 
 pub fresh-requires : goal.fresh-requires
-fresh-requires c = let shape = c in
-    let f = fits _ _ _ (holds shape.shape_fits.ensures shape.if-not-shape_fits.false-raw) in
+fresh-requires c =
+    let f = fits _ _ _ (holds c.shape_fits.ensures c.if-not-shape_fits.false-raw) in
     omega (arith, f.limit, f.words)
 
 pub returns : goal.returns
-returns c = let sheets = c in
-    let shape = sheets in
-    let role = shape in
-    let a = role.args in
-    let after = c.fresh.new.map in
-    settled _ a.n a.map.now after a.c accepted
-    (passes _ a.n a.map.now after a.c (sym role.turned_away.ensures ∙ role.if-turned_away.false)
-    (both _ _ a.c (holds shape.shape_fits.ensures shape.if-not-shape_fits.false-raw)
-    (holds sheets.sheets_fit.ensures sheets.if-not-sheets_fit.false-raw)))
-    c.fresh.ensures
+returns c =
+    let a = c.args in
+    let told = passes _ a.n a.map.now a.c c.in_ok-permit.ensures
+    (both _ _ a.c (holds c.shape_fits.ensures c.if-not-shape_fits.false-raw)
+    (holds c.sheets_fit.ensures c.if-not-sheets_fit.false-raw)) in
+    (told, c.fresh.ensures ∙ left _ a.n a.map.now a.c told)

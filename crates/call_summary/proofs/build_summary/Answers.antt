@@ -12,7 +12,7 @@ pub returns-then-turned_away : goal.returns-then-turned_away
 returns-then-turned_away c = let a = c.args in
     let v = away a.n a.free a.map.now a.summary.now _
     (sym c.turned_away.ensures ∙ c.if-turned_away.true) in (
-      build-told a.n a.free a.map.now a.summary.now _ (refused 21) v,
+      c.answer.ensures ∙ build-told a.n a.free a.map.now a.summary.now _ (refused 21) v,
       build-left a.n a.free a.map.now a.summary.now _ (refused 21) v,
     )
 

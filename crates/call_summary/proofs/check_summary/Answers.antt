@@ -16,13 +16,13 @@ told t = Own (cond t 1 0)
 
 pub returns-then-turned_away : goal.returns-then-turned_away
 returns-then-turned_away c = let a = c.args in
-    check-told a.n a.free a.map.now a.summary.now _ (refused 21)
+    c.answer.ensures ∙ check-told a.n a.free a.map.now a.summary.now _ (refused 21)
     (away a.n a.free a.map.now a.summary.now _ (sym c.turned_away.ensures ∙ c.if-turned_away.true))
 
 pub returns-then-not-summary_fits : goal.returns-then-not-summary_fits
 returns-then-not-summary_fits c = let role = c in
     let a = role.args in
-    check-told a.n a.free a.map.now a.summary.now _ (refused 1)
+    c.answer-then-not-summary_fits.ensures ∙ check-told a.n a.free a.map.now a.summary.now _ (refused 1)
     (shut a.n a.free a.map.now a.summary.now _ (sym role.turned_away.ensures ∙ role.if-turned_away.false)
     (fails c.summary_fits.ensures c.if-not-summary_fits.true-raw))
 

@@ -12,7 +12,7 @@ pub returns-then-not-summary_fits : goal.returns-then-not-summary_fits
 returns-then-not-summary_fits c = let a = c.args in
     let v = shut a.n a.free a.map.now a.summary.now false refl
     (fails c.summary_fits.ensures c.if-not-summary_fits.true-raw) in (
-      build-told a.n a.free a.map.now a.summary.now false (refused 1) v,
+      c.answer.ensures ∙ build-told a.n a.free a.map.now a.summary.now false (refused 1) v,
       build-left a.n a.free a.map.now a.summary.now false (refused 1) v,
     )
 

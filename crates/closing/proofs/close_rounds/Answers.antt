@@ -1,6 +1,6 @@
 -- `closing::close_rounds`: a turn makes one round more.
 -- Assumes nothing.
-use Rattle.std.proofs.Common.{◌≡◌, ℕ, ◌+◌, List, refl, sym, ap, ◌∙◌, add-one, arith}
+use Rattle.std.proofs.Common.{◌≡◌, ℕ, ◌+◌, List, length, refl, sym, ap, ◌∙◌, add-one, arith}
 use Rattle.catalogue.specs.declared.Entry.{Entry}
 use Rattle.closing.specs.Rounds.{Stand, rounds, stand, round_at, round_entries, round_card, rounds_at, rounds_entries}
 use Rattle.closing.specs.Rounds.{rounds_card}
@@ -21,18 +21,18 @@ more k s es card at e =
       card = round_card t.entries t.card t.at;
     }) e)
 
-pub loop-i-init : goal.loop-i-init
-loop-i-init c = (omega arith, none _ _ _)
+pub loop-init : goal.loop-init
+loop-init c = none _ _ _
 
-pub loop-i-preserved : goal.loop-i-preserved
-loop-i-preserved c =
-    let e = more c.loop-i.i _ c.loop-i.catalogue c.loop-i.card c.loop-i.state c.loop-i.invariant.1 in
-    let turn = c.close_next-state.ensures in
-    (omega arith, simp (sym turn.0, sym turn.1, sym turn.2) at e)
+pub loop-preserved : goal.loop-preserved
+loop-preserved c =
+    let e = more c.loop.counter _ c.loop.catalogue c.loop.card c.loop.at c.loop.invariant in
+    let turn = c.close_next-at.ensures in
+    simp (sym turn.0, sym turn.1, sym turn.2) at e
 
 pub returns : goal.returns
 unfolding rounds_at rounds_entries rounds_card
 returns c =
-    let k : c.loop-i.i ≡ c.args.count = omega arith in
-    let e = ap (λ (i : ℕ). rounds i (stand c.args.catalogue.now c.args.card.now c.args.start)) (sym k) ∙ c.loop-i.invariant.1 in
+    let k : c.loop.counter ≡ length c.args.catalogue.now = omega arith in
+    let e = ap (λ (i : ℕ). rounds i (stand c.args.catalogue.now c.args.card.now 0)) (sym k) ∙ c.loop.invariant in
     (sym (ap (λ (s : Stand). s.at) e), sym (ap (λ (s : Stand). s.entries) e), sym (ap (λ (s : Stand). s.card) e))

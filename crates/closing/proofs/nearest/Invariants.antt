@@ -1,11 +1,13 @@
--- What is looked at so far and what is still to be looked at give the pick.
-use Rattle.std.proofs.Common.{◌≡◌, ◌-◌, ◌≤◌, length, drop}
-use Rattle.closing.specs.Rounds.{nearest_of}
+-- What is found so far and what is still to be looked at give the nearest.
+use Rattle.std.proofs.Common.{◌≡◌, ◌<◌, drop}
+use Rattle.std.specs.Prelude.{None, IfSome}
+use Rattle.closing.specs.Rounds.{found_of, nearest_from}
+use Rattle.closing.proofs.Rounded.{Before}
 use Rattle.closing.proofs.nearest.Given as goal
 
-abbrev pub invariant-loop-i : goal.invariant-loop-i
-invariant-loop-i l = (l.i ≤ length l.catalogue) × (nearest_of (drop l.i l.catalogue) l.state
-    ≡ nearest_of l.catalogue l.initial.state)
-
-abbrev pub decreases-loop-i : goal.decreases-loop-i
-decreases-loop-i l = length l.catalogue - l.i
+abbrev pub invariant-loop-sheet : goal.invariant-loop-sheet
+invariant-loop-sheet l =
+    (nearest_from l.at l.sheet (drop l.sheet l.catalogue) (found_of l.catalogue l.nearest)
+    ≡ nearest_from l.at 0 l.catalogue None)
+    × IfSome l.nearest (λ i. i < l.sheet)
+    × Before (found_of l.catalogue l.nearest) l.before

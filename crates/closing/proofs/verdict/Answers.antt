@@ -1,21 +1,44 @@
 -- `verdict` meets its contract, row by row.
 -- Assumes nothing.
-
-use Rattle.std.proofs.Common.{sym, ◌∙◌}
-use Rattle.closing.proofs.Steps.{verdict_21, verdict-1, verdict-0, verdict-4}
+use Rattle.std.proofs.Common.{sym, ◌∙◌, arith}
+use Rattle.roles.specs.Roles as names
+use Rattle.roles.specs.Roles.{turned_away}
+use Rattle.closing.proofs.Closes.{close_fits_to, told_21, told-1, told-4, told-0, whole_tested}
 use Rattle.closing.proofs.verdict.Goals as goal
 
 pub returns-then-turned_away : goal.returns-then-turned_away
-returns-then-turned_away c = verdict_21 _ _ _ (sym c.turned_away.ensures ∙ c.if-turned_away.true)
+returns-then-turned_away c =
+    let a = c.args in
+    told_21 (turned_away a.role names.close) a.n a.free a.fits a.map.now a.catalogue.now a.card.now a.scratch.now
+    (sym c.turned_away.ensures ∙ c.if-turned_away.true)
 
-pub returns-then-start : goal.returns-then-start
-returns-then-start c = let role = c in
-    verdict-1 _ _ _ (sym role.turned_away.ensures ∙ role.if-turned_away.false) c.if-start.true
+pub returns-then-not-close_fits : goal.returns-then-not-close_fits
+returns-then-not-close_fits c =
+    let a = c.args in
+    told-1 (turned_away a.role names.close) a.n a.free a.fits a.map.now a.catalogue.now a.card.now a.scratch.now
+    (sym c.turned_away.ensures ∙ c.if-turned_away.false) (sym c.close_fits.ensures ∙ c.if-not-close_fits.true)
 
-pub returns-then-sound : goal.returns-then-sound
-returns-then-sound c = let role = c in
-    verdict-0 _ _ _ (sym role.turned_away.ensures ∙ role.if-turned_away.false) c.if-start.false c.if-sound.true
+pub overflow_sub-n : goal.overflow_sub-n
+overflow_sub-n c =
+    let l = close_fits_to _ _ _ _ _ _ _ (sym c.close_fits.ensures ∙ c.if-not-close_fits.false) in
+    omega (arith, l.saved.limits.spare)
+
+pub returns-then-not-test_sound : goal.returns-then-not-test_sound
+returns-then-not-test_sound c =
+    let a = c.args in
+    let turned = turned_away a.role names.close in
+    let t = sym c.turned_away.ensures ∙ c.if-turned_away.false in
+    let f = sym c.close_fits.ensures ∙ c.if-not-close_fits.false in
+    told-4 turned a.n a.free a.fits a.map.now a.catalogue.now a.card.now a.scratch.now t f
+    (sym (whole_tested turned a.n a.free a.fits a.map.now a.catalogue.now a.card.now a.scratch.now t f)
+    ∙ sym c.test_sound.ensures.0 ∙ c.if-not-test_sound.true)
 
 pub returns : goal.returns
-returns c = let role = c in
-    verdict-4 _ _ _ (sym role.turned_away.ensures ∙ role.if-turned_away.false) c.if-start.false c.if-sound.false
+returns c =
+    let a = c.args in
+    let turned = turned_away a.role names.close in
+    let t = sym c.turned_away.ensures ∙ c.if-turned_away.false in
+    let f = sym c.close_fits.ensures ∙ c.if-not-close_fits.false in
+    told-0 turned a.n a.free a.fits a.map.now a.catalogue.now a.card.now a.scratch.now t f
+    (sym (whole_tested turned a.n a.free a.fits a.map.now a.catalogue.now a.card.now a.scratch.now t f)
+    ∙ sym c.test_sound.ensures.0 ∙ c.if-not-test_sound.false)

@@ -12,16 +12,15 @@ pub returns-then-from-to : goal.returns-then-from-to
 returns-then-from-to c = moved_nowhere _ _ _ _ c.if-from-to.true
 
 pub loop-i-init : goal.loop-i-init
-loop-i-init c = let a = c.args in (omega arith, moved_none a.card.now a.to a.from, search rules)
+loop-i-init c = let a = c.args in (moved_none a.card.now a.to a.from, search rules)
 
 pub loop-i-preserved : goal.loop-i-preserved
 loop-i-preserved c = let a = c.args in (
-  omega arith,
   moved_next a.card.now c.loop-i.card _ a.to a.from c.loop-i.i (omega arith) (omega arith)
-      c.loop-i.invariant.1 c.move_block.ensures,
+      c.loop-i.invariant.0 c.move_block.ensures,
   search rules,
 )
 
 pub returns : goal.returns
 returns c = let a = c.args in
-    c.loop-i.invariant.1 ∙ ap (moved a.card.now a.to a.from) (omega arith)
+    c.loop-i.invariant.0 ∙ ap (moved a.card.now a.to a.from) (omega arith)

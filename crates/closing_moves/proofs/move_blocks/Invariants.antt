@@ -2,13 +2,9 @@
 -- Assumes nothing.
 
 use mathlib.Core.Path.{◌≡◌}
-use Prim.Native.Nat.{◌≤◌, ◌-◌}
 use lib.ListN.{length}
 use Rattle.closing_moves.specs.Moved.{moved}
 use Rattle.closing_moves.proofs.move_blocks.Given as goal
 
 abbrev pub invariant-loop-i : goal.invariant-loop-i
-invariant-loop-i l = (l.i ≤ l.k) × (l.card ≡ moved l.initial.card l.to l.from l.i) × (length l.card ≡ length l.initial.card)
-
-abbrev pub decreases-loop-i : goal.decreases-loop-i
-decreases-loop-i l = l.k - l.i
+invariant-loop-i l = (l.card ≡ moved l.initial.card l.to l.from l.i) × (length l.card ≡ length l.initial.card)

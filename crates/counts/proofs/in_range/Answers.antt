@@ -5,10 +5,10 @@ use mathlib.Core.Path.{sym, ap}
 use Rattle.counts.specs.Counts.{in_range}
 use Rattle.counts.proofs.in_range.Goals as goal
 
-pub returns-in-Absent : goal.returns-in-Absent
+pub returns-in-None : goal.returns-in-None
 unfolding in_range
-returns-in-Absent c = ap in_range (sym c.in-Absent.is)
+returns-in-None c = ap in_range (sym c.in-None.is)
 
-pub returns-in-Hundredths : goal.returns-in-Hundredths
+pub returns-in-Some : goal.returns-in-Some
 unfolding in_range
-returns-in-Hundredths c = ap in_range (sym c.in-Hundredths.is)
+returns-in-Some c = ap in_range (sym c.in-Some.is)

@@ -1,14 +1,10 @@
 -- `write_words` meets its contract. The loop's invariant: the first i words were written from number k on.
 -- Assumes nothing.
 
-use Prim.Native.Nat.{◌≤◌, ◌-◌}
-use lib.ListN.{length, take}
+use lib.ListN.{take}
 use Rattle.image_frames.proofs.Stored.{Written}
 use Rattle.image_frames.specs.Numbers.{word_bytes}
 use Rattle.image_frames.proofs.write_words.Given as goal
 
 abbrev pub invariant-loop-i : goal.invariant-loop-i
-invariant-loop-i l = (l.i ≤ length l.words) × Written l.initial.image l.k (word_bytes (take l.i l.words)) l.image
-
-abbrev pub decreases-loop-i : goal.decreases-loop-i
-decreases-loop-i l = length l.words - l.i
+invariant-loop-i l = Written l.initial.image l.k (word_bytes (take l.i l.words)) l.image

@@ -1,25 +1,18 @@
--- `zeros_from` meets its contract. The loop's invariant: the numbers passed are 0.
+-- `zeros_from` meets its contract: `all` tells of every number whether it is 0.
 -- Assumes nothing.
-
-use mathlib.Core.Path.{sym, ◌∙◌}
-use native.Mathlib.Omega.{arith}
-use borrow.Author.Count.{below_more}
-use Rattle.image_frames.proofs.Stored.{zeros_all, zeros_not}
+use Rattle.std.proofs.Common.{◌∙◌, ◌-◌, ◌*◌, rules, tests, refl, eqb}
+use Rattle.std.proofs.lemmas.Iterator.{YieldsList-from_range}
+use Rattle.std.proofs.lemmas.Iterator.Search.{all_from_yields_List}
+use Rattle.image_frames.specs.Frames.{total_of}
+use Rattle.image_frames.specs.Numbers.{number_in}
+use Rattle.image_frames.proofs.Ranges.{all_in_range}
+use Rattle.image_frames.proofs.Stored.{zeros_told}
 use Rattle.image_frames.proofs.zeros_from.Goals as goal
 
-pub loop-i-init : goal.loop-i-init
-loop-i-init c = (omega arith, λ j u o. absurd (omega arith))
-
-pub returns-then-number-ne0 : goal.returns-then-number-ne0
-returns-then-number-ne0 c = let loop = c.loop-i in
-    let a = c.args in
-    zeros_not a.image.now a.k loop.i (omega arith) (λ e. c.if-number-ne0.true (c.number.ensures ∙ e))
-
-pub loop-i-preserved : goal.loop-i-preserved
-loop-i-preserved c = let loop = c.loop-i in
-    (omega arith, below_more _ _ loop.invariant.1 (λ o. sym c.number.ensures ∙ c.if-number-ne0.false))
-
 pub returns : goal.returns
-returns c = let loop = c.loop-i in
-    let a = c.args in
-    zeros_all a.image.now a.k loop.i (omega arith) (λ j o u. loop.invariant.1 j u o)
+returns c = let image = c.args.image.now in
+    let k = c.args.k in
+    let end = 124 * total_of image in
+    all_from_yields_List (λ i. eqb (number_in image i) 0) _ _ c.all.result c.all.ensures.ran
+    (YieldsList-from_range k end (end - k) refl refl) (λ x b q h. search (rules, tests))
+    ∙ all_in_range (λ i. eqb (number_in image i) 0) k (end - k) ∙ zeros_told image k (end - k) refl

@@ -6,7 +6,6 @@ use mathlib.Core.Path.{◌≡◌, sym, ap, ap₂, ◌∙◌}
 use Prim.Native.Nat.{ℕ}
 use native.Mathlib.Omega.{arith}
 use lib.ListN.{length}
-use Rattle.catalogue_standings.proofs.Tested.{fails, holds}
 use Rattle.image_frames.specs.Numbers.{number_in}
 use Rattle.image.specs.Image.{blocks_in, free_count_in, sheets_in}
 use Rattle.image.specs.Table.{head_fits, load_fits}
@@ -28,118 +27,109 @@ lent-read : (image : List ℕ) (n c maplen count scratchlen : ℕ) → n ≡ num
 lent-read image n c maplen count scratchlen p r =
     ap₂ (λ (x y : ℕ). load_fits x y maplen count scratchlen) (p ∙ blocks_in_lem image) (r ∙ sheets_in_lem image)
 
-pub returns-then-turned_away : goal.returns-then-turned_away
-returns-then-turned_away c =
+pub returns-then-turned_away-clause-number : goal.returns-then-turned_away-clause-number
+returns-then-turned_away-clause-number c =
     let a = c.args in
     load_row_21 _ a.image.now a.maplen a.count (length a.scratch.now)
     (sym c.turned_away.ensures ∙ c.if-turned_away.true)
 
-pub returns-then-not-whole_blocks : goal.returns-then-not-whole_blocks
-returns-then-not-whole_blocks c =
+pub returns-then-not-whole_blocks-clause-number : goal.returns-then-not-whole_blocks-clause-number
+returns-then-not-whole_blocks-clause-number c =
     let a = c.args in
     load_row_12 _ a.image.now a.maplen a.count (length a.scratch.now)
     (sym c.turned_away.ensures ∙ c.if-turned_away.false)
-    (fails c.whole_blocks.ensures c.if-not-whole_blocks.true-raw)
+    (sym c.whole_blocks.ensures ∙ c.if-not-whole_blocks.true)
 
 pub all_framed-requires : goal.all_framed-requires
 all_framed-requires c =
-    let w = whole_to _ (holds c.whole_blocks.ensures c.if-not-whole_blocks.false-raw) in
+    let w = whole_to _ (sym c.whole_blocks.ensures ∙ c.if-not-whole_blocks.false) in
     omega (arith, w.exact, w.few)
 
-pub returns-then-not-all_framed : goal.returns-then-not-all_framed
-returns-then-not-all_framed c =
+pub returns-then-not-all_framed-clause-number : goal.returns-then-not-all_framed-clause-number
+returns-then-not-all_framed-clause-number c =
     let a = c.args in
     load_row_13 _ a.image.now a.maplen a.count (length a.scratch.now)
     (sym c.turned_away.ensures ∙ c.if-turned_away.false)
-    (holds c.whole_blocks.ensures c.if-not-whole_blocks.false-raw)
-    (fails c.all_framed.ensures c.if-not-all_framed.true-raw)
+    (sym c.whole_blocks.ensures ∙ c.if-not-whole_blocks.false)
+    (sym c.all_framed.ensures ∙ c.if-not-all_framed.true)
 
-pub returns-then-not-head_fits : goal.returns-then-not-head_fits
-returns-then-not-head_fits c =
+pub returns-then-not-head_fits-clause-number : goal.returns-then-not-head_fits-clause-number
+returns-then-not-head_fits-clause-number c =
     let a = c.args in
     load_row_14 _ a.image.now a.maplen a.count (length a.scratch.now)
     (sym c.turned_away.ensures ∙ c.if-turned_away.false)
-    (holds c.whole_blocks.ensures
-    c.if-not-whole_blocks.false-raw)
-    (holds c.all_framed.ensures
-    c.if-not-all_framed.false-raw)
+    (sym c.whole_blocks.ensures ∙ c.if-not-whole_blocks.false)
+    (sym c.all_framed.ensures ∙ c.if-not-all_framed.false)
     (sym (head_read a.image.now _ _ _ _ c.number-n.ensures
     c.number-free.ensures c.number-c.ensures)
-    ∙ fails c.head_fits.ensures c.if-not-head_fits.true-raw)
+    ∙ sym c.head_fits.ensures ∙ c.if-not-head_fits.true)
 
 pub load_fits-requires : goal.load_fits-requires
-load_fits-requires c = (head_to _ _ _ _ (holds c.head_fits.ensures c.if-not-head_fits.false-raw)).limits.limit
+load_fits-requires c = (head_to _ _ _ _ (sym c.head_fits.ensures ∙ c.if-not-head_fits.false)).limits.limit
 
-pub returns-then-not-load_fits : goal.returns-then-not-load_fits
-returns-then-not-load_fits c =
+pub returns-then-not-load_fits-clause-number : goal.returns-then-not-load_fits-clause-number
+returns-then-not-load_fits-clause-number c =
     let a = c.args in
     load_row_1 _ a.image.now a.maplen a.count (length a.scratch.now)
     (sym c.turned_away.ensures ∙ c.if-turned_away.false)
-    (holds c.whole_blocks.ensures
-    c.if-not-whole_blocks.false-raw)
-    (holds c.all_framed.ensures
-    c.if-not-all_framed.false-raw)
+    (sym c.whole_blocks.ensures ∙ c.if-not-whole_blocks.false)
+    (sym c.all_framed.ensures ∙ c.if-not-all_framed.false)
     (sym (head_read a.image.now _ _ _ _ c.number-n.ensures
     c.number-free.ensures c.number-c.ensures)
-    ∙ holds c.head_fits.ensures c.if-not-head_fits.false-raw)
+    ∙ sym c.head_fits.ensures ∙ c.if-not-head_fits.false)
     (sym (lent-read a.image.now _ _ _ _ _ c.number-n.ensures
-    c.number-c.ensures) ∙ fails c.load_fits.ensures c.if-not-load_fits.true-raw)
+    c.number-c.ensures) ∙ sym c.load_fits.ensures ∙ c.if-not-load_fits.true)
 
 pub content_holds-requires : goal.content_holds-requires
 content_holds-requires c =
     let a = c.args in
     let w = whole_to _
-    (holds c.whole_blocks.ensures
-    c.if-not-whole_blocks.false-raw) in
-    let l = load_fits_to _ _ _ _ _ (holds c.load_fits.ensures c.if-not-load_fits.false-raw) in (
+    (sym c.whole_blocks.ensures ∙ c.if-not-whole_blocks.false) in
+    let l = load_fits_to _ _ _ _ _ (sym c.load_fits.ensures ∙ c.if-not-load_fits.false) in (
       c.number-n.ensures ∙ blocks_in_lem a.image.now,
       c.number-free.ensures ∙ spare_in_lem a.image.now,
       c.number-c.ensures ∙ sheets_in_lem a.image.now,
-      holds c.head_fits.ensures c.if-not-head_fits.false-raw,
+      sym c.head_fits.ensures ∙ c.if-not-head_fits.false,
       l.scratch,
       omega (arith, w.exact, w.few),
     )
 
-pub returns-then-not-content_holds : goal.returns-then-not-content_holds
-returns-then-not-content_holds c =
+pub returns-then-not-content_holds-clause-number : goal.returns-then-not-content_holds-clause-number
+returns-then-not-content_holds-clause-number c =
     let a = c.args in
     load_row_content _ a.image.now a.maplen a.count (length a.scratch.now)
     (sym c.turned_away.ensures ∙ c.if-turned_away.false)
-    (holds c.whole_blocks.ensures
-    c.if-not-whole_blocks.false-raw)
-    (holds c.all_framed.ensures
-    c.if-not-all_framed.false-raw)
+    (sym c.whole_blocks.ensures ∙ c.if-not-whole_blocks.false)
+    (sym c.all_framed.ensures ∙ c.if-not-all_framed.false)
     (sym (head_read a.image.now _ _ _ _
     c.number-n.ensures
     c.number-free.ensures
     c.number-c.ensures)
-    ∙ holds c.head_fits.ensures
-    c.if-not-head_fits.false-raw)
+    ∙ sym c.head_fits.ensures ∙ c.if-not-head_fits.false)
     (sym (lent-read a.image.now _ _ _ _ _
     c.number-n.ensures
     c.number-c.ensures)
-    ∙ holds c.load_fits.ensures
-    c.if-not-load_fits.false-raw)
-    (fails c.content_holds.ensures c.if-not-content_holds.true-raw)
+    ∙ sym c.load_fits.ensures ∙ c.if-not-load_fits.false)
+    (sym c.content_holds.ensures ∙ c.if-not-content_holds.true)
 
-pub returns : goal.returns
-returns c =
+pub returns-clause-number : goal.returns-clause-number
+returns-clause-number c =
     let a = c.args in
     load_row_none _ a.image.now a.maplen a.count (length a.scratch.now)
     (sym c.turned_away.ensures ∙ c.if-turned_away.false)
-    (holds c.whole_blocks.ensures
-    c.if-not-whole_blocks.false-raw)
-    (holds c.all_framed.ensures
-    c.if-not-all_framed.false-raw)
+    (sym c.whole_blocks.ensures ∙ c.if-not-whole_blocks.false)
+    (sym c.all_framed.ensures ∙ c.if-not-all_framed.false)
     (sym (head_read a.image.now _ _ _ _
     c.number-n.ensures
     c.number-free.ensures
     c.number-c.ensures)
-    ∙ holds c.head_fits.ensures
-    c.if-not-head_fits.false-raw)
+    ∙ sym c.head_fits.ensures ∙ c.if-not-head_fits.false)
     (sym (lent-read a.image.now _ _ _ _ _
     c.number-n.ensures
     c.number-c.ensures)
-    ∙ holds c.load_fits.ensures
-    c.if-not-load_fits.false-raw)
-    (holds c.content_holds.ensures c.if-not-content_holds.false-raw)
+    ∙ sym c.load_fits.ensures ∙ c.if-not-load_fits.false)
+    (sym c.content_holds.ensures ∙ c.if-not-content_holds.false)
+
+pub returns-clause-head : goal.returns-clause-head
+returns-clause-head c =
+    (c.number-n.ensures ∙ blocks_in_lem c.args.image.now, c.number-free.ensures ∙ spare_in_lem c.args.image.now)

@@ -1,8 +1,11 @@
 -- `release_near` meets its contract.
 -- Assumes nothing.
 
+use Rattle.std.proofs.Common.{not, ap, ◌∙◌}
 use Rattle.image_soundness.proofs.Parts.{step_past}
 use Rattle.image_windows.proofs.release_near.Goals as goal
 
-pub returns : goal.returns
-returns c = step_past _ _ _ (c.may_have_part.ensures c.if-may_have_part.false)
+pub returns-then-not-may_have_part : goal.returns-then-not-may_have_part
+returns-then-not-may_have_part c =
+    let p = step_past _ _ _ (c.may_have_part.ensures c.if-not-may_have_part.true) in
+    (ap not c.if-not-may_have_part.true ∙ p.0, p.1)

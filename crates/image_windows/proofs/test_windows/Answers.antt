@@ -1,25 +1,19 @@
--- `test_windows`: a turn tests one window more.
+-- `test_windows`: all windows pass, up to one that fails.
 -- Assumes nothing.
-use Rattle.std.proofs.Common.{sym, add-one, arith}
-use Rattle.image_soundness.proofs.Rounds.{windows_none, windows_more, scratch_none, scratch_more}
+use Rattle.std.proofs.Common.{◌*◌, ◌∙◌, ap, sym, length, arith, ℕ}
+use Rattle.image_soundness.specs.Windows.{window_passes}
+use Rattle.image_soundness.proofs.Windowed.{window_fails, windows_told}
 use Rattle.image_windows.proofs.test_windows.Goals as goal
 
-pub loop-i-init : goal.loop-i-init
-loop-i-init c =
+pub returns-then-not-test_window : goal.returns-then-not-test_window
+returns-then-not-test_window c =
     let a = c.args in
-    record {
-      inside = omega arith;
-      state = sym (windows_none a.map.now a.catalogue.now a.scratch.now a.n a.start);
-      scratch = sym (scratch_none a.map.now a.catalogue.now a.scratch.now a.n a.start);
-    }
+    let lo : ℕ = c.loop-i.i * 4096 in
+    window_fails a.map.now a.catalogue.now (length a.scratch.now) a.n c.loop-i.i lo (omega arith) (omega arith)
+    (ap (λ (m : ℕ). window_passes a.map.now a.catalogue.now m a.n lo) (sym c.loop-i.auto.scratch)
+    ∙ sym c.test_window.ensures ∙ c.if-not-test_window.true)
 
-pub loop-i-preserved : goal.loop-i-preserved
-loop-i-preserved c =
+pub returns : goal.returns
+returns c =
     let a = c.args in
-    let w = windows_more c.loop-i.i a.map.now a.catalogue.now a.scratch.now a.n a.start in
-    let s = scratch_more c.loop-i.i a.map.now a.catalogue.now a.scratch.now a.n a.start in
-    record {
-      inside = omega arith;
-      state = rw add-one (cc);
-      scratch = rw add-one (cc);
-    }
+    windows_told a.map.now a.catalogue.now (length a.scratch.now) a.n c.loop-i.i (omega arith) c.loop-i.invariant

@@ -1,14 +1,7 @@
--- The window and the scratch after i windows.
-use Rattle.std.proofs.Common.{◌≡◌, ◌-◌, ◌≤◌}
-use Rattle.image_soundness.specs.Windows.{windows_of, windows_scratch}
+-- The windows before this one pass.
+use Rattle.std.proofs.Common.{◌≡◌, ◌*◌, ◌<◌, ℕ, true, length}
+use Rattle.image_soundness.specs.Windows.{window_passes}
 use Rattle.image_windows.proofs.test_windows.Given as goal
 
 abbrev pub invariant-loop-i : goal.invariant-loop-i
-invariant-loop-i l = record {
-  inside : l.i ≤ l.count;
-  state : l.state ≡ windows_of l.map l.catalogue l.initial.scratch l.n l.i l.initial.state;
-  scratch : l.scratch ≡ windows_scratch l.map l.catalogue l.initial.scratch l.n l.i l.initial.state;
-}
-
-abbrev pub decreases-loop-i : goal.decreases-loop-i
-decreases-loop-i l = l.count - l.i
+invariant-loop-i l = (j : ℕ) → j < l.i → window_passes l.map l.catalogue (length l.initial.scratch) l.n (4096 * j) ≡ true

@@ -2,14 +2,12 @@
 -- Assumes nothing.
 
 use mathlib.Core.Bool.{Bool}
-use Prim.Native.Nat.{ℕ, ◌-◌, ◌*◌, ◌<◌, ◌≤◌}
+use Prim.Native.Nat.{ℕ, ◌*◌, ◌<◌, ◌≤◌}
 use Rattle.map_search_word.specs.Scan.{Carried}
 use Rattle.map_search.specs.Search.{HasBits}
 use Rattle.map_search.proofs.scan_words.Given as goal
 
 abbrev pub invariant-loop-i : goal.invariant-loop-i
-invariant-loop-i l = (l.first ≤ l.i) × (l.i ≤ l.stop) × (l.carried ≤ l.i * 64) × (l.carried < l.k)
-    × ((f : ℕ → Bool) → HasBits l.map l.first l.stop f → Carried f l.k (l.first * 64) l.s → Carried f l.k (l.i * 64) l.carried)
-
-abbrev pub decreases-loop-i : goal.decreases-loop-i
-decreases-loop-i l = l.stop - l.i
+invariant-loop-i l = (l.carried ≤ l.i * 64) × (l.carried < l.sought.k)
+    × ((f : ℕ → Bool) → HasBits l.map l.first l.stop f → Carried f l.sought.k (l.first * 64) l.s
+    → Carried f l.sought.k (l.i * 64) l.carried)

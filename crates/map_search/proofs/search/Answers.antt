@@ -2,6 +2,7 @@
 -- on behind it.
 -- Assumes nothing.
 
+use Rattle.std.specs.Prelude.{Some, None}
 use mathlib.Core.Path.{◌≡◌, sym, ap, ◌∙◌, subst}
 use mathlib.Core.Bool.{Bool, false}
 use Prim.Native.Nat.{ℕ, ◌+◌, ◌*◌, ◌≤◌}
@@ -9,7 +10,6 @@ use native.Mathlib.Omega.{arith}
 use lib.Count.{count_leading_zeros, leading_le}
 use Rattle.map_blocks.specs.Blocks.{free, all}
 use Rattle.map_blocks.specs.Words.{bit, in_window}
-use Rattle.map_blocks.specs.declared.Found.TheVariants.{At, Nothing}
 use Rattle.map_search_word.specs.Scan.{Carried}
 use Rattle.map_blocks.proofs.Bits.{bit_zero}
 use Rattle.map_search_word.proofs.Ends.{first_set}
@@ -20,7 +20,7 @@ use Rattle.map_search.proofs.search.Goals as goal
 pub returns-then-before-from : goal.returns-then-before-from
 returns-then-before-from c = let a = c.args in
     let g : ℕ → Bool = free a.map.now in
-    told_least g a.from a.before a.k (omega arith) Nothing
+    told_least g a.from a.before a.k (omega arith) None
     (at_end g a.from a.before a.k a.from 0 c.if-before-from.true
     (at_start g a.from a.before a.k a.from (omega arith) (omega arith)))
 
@@ -55,7 +55,7 @@ returns c = let at-gaps = c in
     let w : ℕ = here.reach-reached.result.bits in
     let base : ℕ = here.reach-reached.result.word * 64 in
     let g : ℕ = at-gaps.gaps-g.result in
-    told_least (free a.map.now) a.from a.before a.k (omega arith) (At (base + count_leading_zeros 64 g))
+    told_least (free a.map.now) a.from a.before a.k (omega arith) (Some (base + count_leading_zeros 64 g))
     (gap_hit (in_window (free a.map.now) a.from a.before) a.k base 0 w here.reach-reached.ensures.by_index
     (here.reach-reached.ensures.by_index_2 a.k (omega arith)) g (count_leading_zeros 64 g)
     at-gaps.gaps-g.ensures (first_set g (omega arith) (omega arith)) (λ t u l. absurd (omega arith)))

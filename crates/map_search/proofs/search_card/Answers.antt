@@ -1,6 +1,7 @@
 -- `map_search::search_card` meets its contract, as `search` does.
 -- Assumes nothing.
 
+use Rattle.std.specs.Prelude.{Some}
 use mathlib.Core.Path.{◌≡◌, sym, ap, ◌∙◌, subst}
 use mathlib.Core.Bool.{Bool, false}
 use Prim.Native.Nat.{ℕ, ◌+◌, ◌*◌, ◌≤◌}
@@ -8,7 +9,6 @@ use native.Mathlib.Omega.{arith}
 use lib.Count.{count_leading_zeros, leading_le}
 use Rattle.map_blocks.specs.Blocks.{free, all}
 use Rattle.map_blocks.specs.Words.{bit, in_window}
-use Rattle.map_blocks.specs.declared.Found.TheVariants.{At}
 use Rattle.map_search_word.specs.Scan.{Carried}
 use Rattle.map_blocks.proofs.Bits.{bit_zero}
 use Rattle.map_search_word.proofs.Ends.{first_set}
@@ -33,16 +33,16 @@ search_on-requires c = let at-gaps = c in
           (tail_below w c.tail.result a.k none c.tail.ensures) (λ t u l. absurd (omega arith)) none);
     }
 
-pub returns-in-At : goal.returns-in-At
-returns-in-At c = let here = c in
+pub returns-in-Some : goal.returns-in-Some
+returns-in-Some c = let here = c in
     let a = here.args in
-    sym c.in-At.is
+    sym c.in-Some.is
     ∙ told_least (free a.map.now) 0 a.n a.k (omega arith) here.search_on.result here.search_on.ensures
 
-pub returns-in-Nothing : goal.returns-in-Nothing
-returns-in-Nothing c = let here = c in
+pub returns-in-None : goal.returns-in-None
+returns-in-None c = let here = c in
     let a = here.args in
-    sym c.in-Nothing.is
+    sym c.in-None.is
     ∙ told_least (free a.map.now) 0 a.n a.k (omega arith) here.search_on.result here.search_on.ensures
 
 pub overflow_add-result : goal.overflow_add-result
@@ -55,7 +55,7 @@ returns c = let at-gaps = c in
     let w : ℕ = here.reach-reached.result.bits in
     let base : ℕ = here.reach-reached.result.word * 64 in
     let g : ℕ = at-gaps.gaps-g.result in
-    told_least (free a.map.now) 0 a.n a.k (omega arith) (At (base + count_leading_zeros 64 g))
+    told_least (free a.map.now) 0 a.n a.k (omega arith) (Some (base + count_leading_zeros 64 g))
     (gap_hit (in_window (free a.map.now) 0 a.n) a.k base 0 w here.reach-reached.ensures.by_index
     (here.reach-reached.ensures.by_index_2 a.k (omega arith)) g (count_leading_zeros 64 g)
     at-gaps.gaps-g.ensures (first_set g (omega arith) (omega arith)) (λ t u l. absurd (omega arith)))

@@ -2,14 +2,17 @@
 -- the last.
 -- Assumes nothing.
 
-use mathlib.Core.Path.{subst}
+use Rattle.std.specs.ControlFlow.{break_value}
+use Rattle.std.specs.declared.ops.ControlFlow.{ControlFlow}
+use Rattle.std.specs.declared.ops.ControlFlow.TheVariants.{Break, Continue}
+use mathlib.Core.Path.{sym, subst}
 use mathlib.Core.Bool.{Bool}
-use Prim.Native.Nat.{ℕ, ◌+◌, ◌-◌, ◌*◌, ◌/◌}
+use Prim.Native.Nat.{ℕ, ◌+◌, ◌-◌, ◌*◌, ◌/◌, ◌≤◌}
 use native.Mathlib.Omega.{arith}
 use Rattle.map_blocks.specs.Blocks.{free}
 use Rattle.map_blocks.specs.Words.{in_window}
 use Rattle.map_search_word.specs.Scan.{Stepped, Bounded}
-use Rattle.map_search_word.specs.declared.Step.TheVariants.{Next}
+use Rattle.map_search.specs.Search.{Finds}
 use Rattle.map_blocks.proofs.Maps.{cut_word}
 use Rattle.map_search.proofs.Window.{at_end, whole_words}
 use Rattle.map_search.proofs.search_on.Goals.{After-scan_groups, After-scan_word}
@@ -44,7 +47,7 @@ last c before =
     let f : ℕ → Bool = in_window (free a.map.now) a.from a.before in
     c.scan_word.ensures.by_index f (cut_word a.map.now a.from a.before ((a.before - 1) / 64) c.part.result
     c.part.ensures)
-    (subst (Stepped f a.k ((a.before - 1) / 64 * 64)) c.in-Next.is before)
+    (subst (Stepped f a.k ((a.before - 1) / 64 * 64)) c.in-Continue.is before)
 
 pub returns-then-last-first : goal.returns-then-last-first
 returns-then-last-first c = let start = c in
@@ -55,21 +58,22 @@ pub scan_word-requires : goal.scan_word-requires
 scan_word-requires c = let groups = c in
     let start = groups in
     let bounds : Bounded start.args.k ((start.args.before - 1) / 64 * 64)
-    (Next c.in-Next.next) =
-    subst (Bounded start.args.k ((start.args.before - 1) / 64 * 64)) c.in-Next.is
+    (Continue c.in-Continue.next) =
+    subst (Bounded start.args.k ((start.args.before - 1) / 64 * 64)) c.in-Continue.is
     groups.scan_groups.ensures.bounded in
-    (omega arith, omega arith, omega arith, groups.core_of-core.ensures)
+    (omega arith, omega arith, omega arith)
 
-pub returns-in-Hit : goal.returns-in-Hit
-returns-in-Hit c = subst (Stepped _ _ _) c.in-Hit.is (between (goal.at.returns-in-Hit c).After-scan_groups)
+pub returns-in-Break : goal.returns-in-Break
+returns-in-Break c = subst (Stepped _ _ _) c.in-Break.is (between (goal.at.returns-in-Break c).After-scan_groups)
 
-pub returns-in-Hit-scan_word : goal.returns-in-Hit-scan_word
-returns-in-Hit-scan_word c = subst (Stepped _ _ _) c.in-Hit-scan_word.is
-    (last (goal.at.returns-in-Hit-scan_word c).After-scan_word (between (goal.at.returns-in-Hit-scan_word c).After-scan_groups))
+-- what is known at the end of the window
+found : (g : ℕ → Bool) (from before k end : ℕ) → before ≤ end → (r : ControlFlow ℕ ℕ)
+    → Stepped (in_window g from before) k end r → Finds (in_window g from before) k (break_value r)
+found g from before k end l (Break start) told = told
+found g from before k end l (Continue s) at = at_end g from before k end s l at
 
-pub returns-in-Next-scan_word : goal.returns-in-Next-scan_word
-returns-in-Next-scan_word c = let here = c in
-    let a = here.args in
-    at_end (free a.map.now) a.from a.before a.k ((a.before - 1) / 64 * 64 + 64) _ (omega arith)
-    (subst (Stepped _ _ _) c.in-Next-scan_word.is (last (goal.at.returns-in-Next-scan_word c).After-scan_word
-    (between (goal.at.returns-in-Next-scan_word c).After-scan_groups)))
+pub returns-in-Continue : goal.returns-in-Continue
+returns-in-Continue c = let a = c.args in
+    subst (Finds (in_window (free a.map.now) a.from a.before) a.k) (sym c.break_value.ensures.value)
+    (found (free a.map.now) a.from a.before a.k ((a.before - 1) / 64 * 64 + 64) (omega arith) c.scan_word.result
+    (last (goal.at.returns-in-Continue c).After-scan_word (between (goal.at.returns-in-Continue c).After-scan_groups)))

@@ -7,7 +7,7 @@ use Rattle.map_search_starts.specs.Starts.{NoRun}
 use Rattle.map_search_near.proofs.near_groups.Given as goal
 
 abbrev pub invariant-loop-at : goal.invariant-loop-at
-invariant-loop-at l = (l.c ≤ l.at) × (l.at ≤ l.stop * 64) × NoRun (on_step l.step) (free l.map) l.k l.c l.at
+invariant-loop-at l = (l.c ≤ l.at) × (l.at ≤ l.stop * 64) × NoRun (on_step l.sought.step) (free l.map) l.sought.k l.c l.at
 
 abbrev pub decreases-loop-at : goal.decreases-loop-at
 decreases-loop-at l = l.stop * 64 - l.at

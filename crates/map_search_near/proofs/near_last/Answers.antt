@@ -15,8 +15,8 @@ returns c = let word = c.word_at in
     let start = c in
     let a = start.args in
     let base : ℕ = a.last * 64 in
-    c.look.ensures.by_index (on_step a.step) (free a.map.now) a.c (omega arith)
+    c.look.ensures.by_index (on_step a.sought.step) (free a.map.now) a.c (omega arith)
     (word_marks a.map.now a.last base _ refl refl)
     (word_marks a.map.now (a.last + 1) (base + 64) word.result (omega arith) word.ensures)
-    (from_marks (on_step a.step) a.c base marks.result c.part.result
+    (from_marks (on_step a.sought.step) a.c base marks.result c.part.result
     (marks.ensures base far.ensures.1) c.part.ensures) start.requires.no_run

@@ -11,35 +11,28 @@ pub near_last-requires : goal.near_last-requires
 near_last-requires c =
     let start = c in
     record {
-      c_bound = (omega arith, omega arith, omega arith, omega arith, omega arith);
-      step_nonzero = (omega arith, omega arith, start.requires.step_nonzero.2);
+      c_bound = (omega arith, omega arith, omega arith);
       no_run = λ t u v. absurd (omega arith);
     }
 
 pub returns-then-end-c : goal.returns-then-end-c
 returns-then-end-c c = c.near_last.ensures
 
-pub near_groups-r-requires : goal.near_groups-r-requires
-near_groups-r-requires c =
-    let start = c in
-    record {
-      c_bound = (omega arith, omega arith, omega arith, omega arith, omega arith);
-      step_nonzero = (omega arith, omega arith, start.requires.step_nonzero.2);
-    }
+pub near_groups-requires : goal.near_groups-requires
+near_groups-requires c = (omega arith, omega arith, omega arith)
 
-pub returns-then-r-end : goal.returns-then-r-end
-returns-then-r-end c = let a = c.args in
+pub returns-in-Some : goal.returns-in-Some
+returns-in-Some c = let a = c.args in
     let last : ℕ = (a.before - 1) / 64 * 64 in
-    run_after (on_step a.step) (free a.map.now) a.k a.c a.c last (last + 64) c.near_groups-r.result
-    (omega arith) (omega arith) (λ t u v. absurd (omega arith)) c.near_groups-r.ensures c.if-r-end.true
+    run_after (on_step a.sought.step) (free a.map.now) a.sought.k a.c a.c last (last + 64) c.in-Some.start
+    (omega arith) (omega arith) (λ t u v. absurd (omega arith))
+    c.in-Some.ensures
 
 pub near_last-requires-2 : goal.near_last-requires-2
-near_last-requires-2 c = let start = c in
-    let groups = c.near_groups-r in
+near_last-requires-2 c = let a = c.args in
     record {
-      c_bound = (omega arith, omega arith, omega arith, omega arith, omega arith);
-      step_nonzero = (omega arith, omega arith, start.requires.step_nonzero.2);
-      no_run = λ t u v on. groups.ensures.none t u (omega arith) on;
+      c_bound = (omega arith, omega arith, omega arith);
+      no_run = c.in_default.ensures;
     }
 
 pub returns : goal.returns

@@ -4,16 +4,13 @@
 
 use mathlib.Core.Path.{◌≡◌}
 use mathlib.Core.Bool.{◌&&◌}
-use Prim.Native.Nat.{ℕ, ◌+◌, ◌-◌, ◌*◌, ◌/◌, ◌%◌, ◌^◌, ◌≤◌, ◌<◌}
+use Prim.Native.Nat.{ℕ, ◌+◌, ◌*◌, ◌%◌, ◌^◌, ◌<◌}
 use lib.Dec.{leb}
 use Rattle.map_blocks.specs.Blocks.{free, on_step}
 use Rattle.map_search_starts.specs.Starts.{Marks, NoRun}
 use Rattle.map_search_near.proofs.near_words.Given as goal
 
 abbrev pub invariant-loop-i : goal.invariant-loop-i
-invariant-loop-i l = (l.c / 64 ≤ l.i) × (l.i ≤ l.stop) × (l.base ≡ l.i * 64) × (l.far < l.step)
-    × ((l.base + l.far) % l.step ≡ 0) × (l.m < 2 ^ 64)
-    × Marks (λ (b : ℕ). on_step l.step b && leb l.c b) l.base l.m × NoRun (on_step l.step) (free l.map) l.k l.c l.base
-
-abbrev pub decreases-loop-i : goal.decreases-loop-i
-decreases-loop-i l = l.stop - l.i
+invariant-loop-i l = (l.far < l.sought.step) × ((l.i * 64 + l.far) % l.sought.step ≡ 0) × (l.m < 2 ^ 64)
+    × Marks (λ (b : ℕ). on_step l.sought.step b && leb l.c b) (l.i * 64) l.m
+    × NoRun (on_step l.sought.step) (free l.map) l.sought.k l.c (l.i * 64)

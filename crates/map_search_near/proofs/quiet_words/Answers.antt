@@ -1,31 +1,19 @@
--- `map_search_near::quiet_words` meets its contract. The loop's invariant: no run starts from `first` to i.
+-- `map_search_near::quiet_words` meets its contract.
 -- Assumes nothing.
 
 use native.Mathlib.Omega.{arith}
-use Prim.Native.Nat.{◌+◌, ◌*◌}
+use Prim.Native.Nat.{◌+◌, ◌*◌, ◌/◌}
+use Rattle.std.proofs.Common.{rules}
 use Rattle.map_blocks.specs.Blocks.{free, on_step}
-use Rattle.map_search_near.proofs.Figures.{no_run_after}
+use Rattle.map_search_starts.specs.Starts.{NoRun}
 use Rattle.map_search_near.proofs.quiet_words.Goals as goal
 
-pub loop-i-init : goal.loop-i-init
-loop-i-init c = (omega arith, omega arith, λ step often t a b. absurd (omega arith))
-
-pub loop-i-preserved : goal.loop-i-preserved
-loop-i-preserved c = let loop = c.loop-i in
-    let a = c.args in (
-      omega arith,
-      omega arith,
-      λ step often. no_run_after (on_step step) (free a.map.now) a.k (a.first * 64) (loop.i * 64) ((loop.i + 8) * 64)
-          (loop.invariant.2 step often) (c.any_start.ensures step often c.if-any_start-ne0.false),
-    )
-
-pub returns-after-loop-i : goal.returns-after-loop-i
-returns-after-loop-i c = let loop = c.loop-i in record { lower_bound = (omega arith, omega arith); by_index = loop.invariant.2 }
-
-pub returns-then-any_start-ne0 : goal.returns-then-any_start-ne0
-returns-then-any_start-ne0 c =
-    let loop = c.loop-i in
-    record {
-      lower_bound = (omega arith, omega arith);
-      by_index = loop.invariant.2;
-    }
+pub returns : goal.returns
+returns c = record {
+  lower_bound = (omega arith, omega arith);
+  by_index = λ t a b on.
+      let group = c.quiet_groups.ensures.by_index (t / 64) (omega arith) (omega arith) in
+      let none : NoRun (on_step c.args.sought.step) (free c.args.map.now) c.args.sought.k (group.0 * 64)
+      ((group.0 + 8) * 64) = search (rules, group.5) in
+      none t (omega (arith, group.1)) (omega (arith, group.2)) on;
+}

@@ -7,11 +7,11 @@ use mathlib.Core.Bool.{false}
 use Prim.Native.Nat.{ℕ, ◌<◌, min}
 use Rattle.map_blocks.specs.Blocks.{free, fit, least_fit}
 use Rattle.map_search_near.proofs.Figures.{found_none, empty_window, past_free, begun, capped}
-use Rattle.map_search_placed.proofs.search_placed.Goals.{After-reach-b}
+use Rattle.map_search_placed.proofs.search_placed.Goals.{In_ok-b}
 use Rattle.map_search_placed.proofs.search_placed.Goals as goal
 
 -- no fit starts before the first free block
-none-to : (c : After-reach-b) (t : ℕ) → t < c.reach-b.result
+none-to : (c : In_ok-b) (t : ℕ) → t < c.in_ok-b.b
     → fit (free c.args.map.now)
     c.args.from
     c.args.before
@@ -19,12 +19,12 @@ none-to : (c : After-reach-b) (t : ℕ) → t < c.reach-b.result
     c.args.k t ≡ false
 none-to c =
     let a = c.args in
-    past_free (free a.map.now) a.from a.before a.step a.k c.reach-b.result (omega arith)
-    c.reach-b.ensures.2
+    past_free (free a.map.now) a.from a.before a.step a.k c.in_ok-b.b (omega arith)
+    (λ t l u v. c.in_ok-b.ensures.2 t l u)
 
 -- the search may begin there
-from_there : (c : After-reach-b)
-    → least_fit (free c.args.map.now) c.reach-b.result
+from_there : (c : In_ok-b)
+    → least_fit (free c.args.map.now) c.in_ok-b.b
     c.args.before
     c.args.step
     c.args.k
@@ -35,7 +35,7 @@ from_there : (c : After-reach-b)
     c.args.k
 from_there c =
     let a = c.args in
-    begun (free a.map.now) a.from a.before a.step a.k c.reach-b.result (omega arith) (none-to c)
+    begun (free a.map.now) a.from a.before a.step a.k c.in_ok-b.b c.in_ok-b.ensures.0 (none-to c)
 
 pub returns-then-from-eq0 : goal.returns-then-from-eq0
 returns-then-from-eq0 c = let a = c.args in
@@ -54,28 +54,27 @@ returns-then-before-k c = let a = c.args in
 
 pub search_far-requires : goal.search_far-requires
 search_far-requires c = let a = c.args in
-    let e : c.smaller.result ≡ min a.step 262144 = c.smaller.ensures in
+    let e : c.min.result ≡ min a.step 262144 = c.min.ensures in
     (omega arith, omega arith, omega arith, omega arith, omega arith, omega arith, omega arith)
 
 pub returns-then-step-ge512 : goal.returns-then-step-ge512
 returns-then-step-ge512 c = let a = c.args in
-    c.found.ensures ∙ c.search_far.ensures ∙ ap (λ (x : ℕ). least_fit (free a.map.now) a.from a.before
+    c.search_far.ensures ∙ ap (λ (x : ℕ). least_fit (free a.map.now) a.from a.before
     x a.k)
-    c.smaller.ensures
+    c.min.ensures
     ∙ capped (free a.map.now) a.from a.before a.step 262144 a.k (omega arith)
 
-pub returns-then-before-b : goal.returns-then-before-b
-returns-then-before-b c = let a = c.args in
-    found_none (free a.map.now) a.from a.before a.step a.k c.reach-b.result (omega arith)
-    (none-to (goal.at.returns-then-before-b c).After-reach-b)
+pub returns-in_err-b : goal.returns-in_err-b
+returns-in_err-b c = let a = c.args in
+    c.from_residual.ensures ∙ found_none (free a.map.now) a.from a.before a.step a.k a.before (omega arith)
+    (past_free (free a.map.now) a.from a.before a.step a.k a.before (omega arith) (λ t l u v. c.in_err-b.ensures t l u))
 
 pub returns-then-step-ge64 : goal.returns-then-step-ge64
-returns-then-step-ge64 c = c.found-then-step-ge64.ensures ∙ c.search_far-then-step-ge64.ensures
-    ∙ from_there (goal.at.returns-then-step-ge64 c).After-reach-b
+returns-then-step-ge64 c = c.search_far-then-step-ge64.ensures
+    ∙ from_there (goal.at.returns-then-step-ge64 c).In_ok-b
 
-pub returns-then-c-before : goal.returns-then-c-before
-returns-then-c-before c = c.found-then-c-before.ensures ∙ c.first_start-c.ensures c.if-c-before.true ∙ from_there
-    (goal.at.returns-then-c-before c).After-reach-b
+pub returns-in-Some : goal.returns-in-Some
+returns-in-Some c = c.in-Some.ensures ∙ from_there (goal.at.returns-in-Some c).In_ok-b
 
 pub returns : goal.returns
-returns c = c.found-2.ensures ∙ c.search_near.ensures ∙ from_there (goal.at.returns c).After-reach-b
+returns c = c.search_near.ensures ∙ from_there (goal.at.returns c).In_ok-b

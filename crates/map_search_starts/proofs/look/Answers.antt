@@ -16,7 +16,7 @@ returns-then-pairs-m-eq0 c = let p = c.pairs in
     let a = start.args in record {
       by_index = λ q f from room here behind marks none. nothing_there q f a.k from a.base p.result a.m room
           (p.ensures f a.k a.base here behind start.requires.3) marks none c.if-pairs-m-eq0.true;
-      lower_bound = (omega arith, omega arith);
+      lower_bound = tt;
     }
 
 pub returns-then-g-eq0 : goal.returns-then-g-eq0
@@ -24,11 +24,11 @@ returns-then-g-eq0 c = let all_runs = c.runs in
     let a = c.args in record {
       by_index = λ q f from room here behind marks none. nothing_there q f a.k from a.base all_runs.result a.m room
           (λ j l e. all_runs.ensures f a.base here behind j l ∙ e) marks none c.if-g-eq0.true;
-      lower_bound = (omega arith, omega arith);
+      lower_bound = tt;
     }
 
-pub overflow_add-result-2 : goal.overflow_add-result-2
-overflow_add-result-2 c = omega (arith, leading_le 64 (bit_and c.runs.result c.args.m))
+pub overflow_add-result : goal.overflow_add-result
+overflow_add-result c = omega (arith, leading_le 64 (bit_and c.runs.result c.args.m))
 
 pub returns : goal.returns
 returns c = let all_runs = c.runs in

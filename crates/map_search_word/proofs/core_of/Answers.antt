@@ -17,8 +17,8 @@ returns-then-k-lt48 c = λ j l e. absurd (clash (bit 0 j) e (bit_zero j))
 
 pub returns : goal.returns
 returns c = λ j l e.
-    let inside : ℕ = c.smaller-inside.result in
-    let is : inside ≡ min c.args.k 64 = c.smaller-inside.ensures in
+    let inside : ℕ = c.min-inside.result in
+    let is : inside ≡ min c.args.k 64 = c.min-inside.ensures in
     let both : (leb (64 - inside) j && ltb j inside) ≡ true = sym (c.span.ensures j l) ∙ e in
     let lo : 64 - inside ≤ j = leb-true (64 - inside) j (and_left (leb (64 - inside) j) (ltb j inside) both) in
     let hi : j < inside = ltb-true j inside (and_right (leb (64 - inside) j) (ltb j inside) both) in

@@ -19,24 +19,24 @@ use Rattle.map_search_word.proofs.scan_word.Goals as goal
 -- the prefix test: the first bits of the word, 64 at the most, as far as they are wanted
 tested : (c : After-has_all) → c.has_all.result
     ≡ all (bit c.args.w) 0
-    (min (c.args.k - c.args.s) 64)
+    (min (c.args.sought.k - c.args.s) 64)
 tested c =
     let start = c in
-    let e : c.smaller.result ≡ min (start.args.k - start.args.s) 64 =
-    c.smaller.ensures in
-    c.has_all.ensures ∙ prefix start.args.w c.span.result c.smaller.result (omega arith)
+    let e : c.min.result ≡ min (start.args.sought.k - start.args.s) 64 =
+    c.min.ensures in
+    c.has_all.ensures ∙ prefix start.args.w c.span.result c.min.result (omega arith)
     c.span.ensures ∙ ap (all (bit start.args.w) 0) e
 
 -- it failed
 early : (c : After-has_all) → c.has_all.result ≡ false → all (bit c.args.w) 0
-    (min (c.args.k - c.args.s) 64) ≡ false
+    (min (c.args.sought.k - c.args.s) 64) ≡ false
 early c failed = sym (tested c) ∙ failed
 
 pub returns-then-wanted-gt64 : goal.returns-then-wanted-gt64
 returns-then-wanted-gt64 c = let here = c in
     let start = here in
     let w : ℕ = start.args.w in
-    let e : min (start.args.k - start.args.s) 64 ≡ 64 = omega arith in
+    let e : min (start.args.sought.k - start.args.s) 64 ≡ 64 = omega arith in
     let ones : all (bit w) 0 64 ≡ true = ap (all (bit w) 0) (sym e)
     ∙ sym (tested (goal.at.returns-then-wanted-gt64 c).After-has_all) ∙ c.if-has_all.true in record {
       bounded = (omega arith, omega arith);
@@ -48,12 +48,12 @@ pub returns-then-has_all : goal.returns-then-has_all
 returns-then-has_all c = let here = c in
     let start = here in
     let w : ℕ = start.args.w in
-    let e : min (start.args.k - start.args.s) 64 ≡ start.args.k - start.args.s = omega arith in
-    let ones : all (bit w) 0 (start.args.k - start.args.s) ≡ true = ap (all (bit w) 0) (sym e)
+    let e : min (start.args.sought.k - start.args.s) 64 ≡ start.args.sought.k - start.args.s = omega arith in
+    let ones : all (bit w) 0 (start.args.sought.k - start.args.s) ≡ true = ap (all (bit w) 0) (sym e)
     ∙ sym (tested (goal.at.returns-then-has_all c).After-has_all)
     ∙ c.if-has_all.true in record {
       bounded = omega (arith, c.run_start.ensures);
-      by_index = λ f same at. subst (Least f start.args.k) (sym c.run_start.ensures)
+      by_index = λ f same at. subst (Least f start.args.sought.k) (sym c.run_start.ensures)
           (head_hit f _ _ _ w same at (omega arith) ones (omega arith));
     }
 
@@ -62,9 +62,9 @@ returns-then-g-eq0 c = let at-if1 = c in
     let start = at-if1 in
     let w : ℕ = start.args.w in
     let tail : Tail w c.tail.result = c.tail.ensures in
-    let none : (j : ℕ) → j + start.args.k ≤ 64 → all (bit w) j start.args.k ≡ false =
+    let none : (j : ℕ) → j + start.args.sought.k ≤ 64 → all (bit w) j start.args.sought.k ≡ false =
     λ j u. sym (c.gaps-g.ensures j) ∙ ap (λ (x : ℕ). bit x j) c.if-g-eq0.true ∙ bit_zero j in
-    let below : c.tail.result < start.args.k = tail_below w c.tail.result start.args.k none tail in record {
+    let below : c.tail.result < start.args.sought.k = tail_below w c.tail.result start.args.sought.k none tail in record {
       bounded = (below, omega (arith, tail.within));
       by_index = λ f same at. next f _ _ _ w same at c.tail.result tail below
           (head_fails f _ _ _ w same at _ (omega arith) (omega arith) (omega arith)
@@ -91,10 +91,10 @@ returns c = let at-if1 = c in
     let start = at-if1 in
     let w : ℕ = start.args.w in
     let tail : Tail w c.tail-2.result = c.tail-2.ensures in
-    let none : (j : ℕ) → j + start.args.k ≤ 64 → all (bit w) j start.args.k ≡ false =
-    core_fails w start.args.core start.args.k start.requires.3
+    let none : (j : ℕ) → j + start.args.sought.k ≤ 64 → all (bit w) j start.args.sought.k ≡ false =
+    core_fails w start.args.sought.core start.args.sought.k start.args.sought.shared
     (sym c.has_all-2.ensures ∙ c.if-has_all-2.false) in
-    let below : c.tail-2.result < start.args.k = tail_below w c.tail-2.result start.args.k none tail in record {
+    let below : c.tail-2.result < start.args.sought.k = tail_below w c.tail-2.result start.args.sought.k none tail in record {
       bounded = (below, omega (arith, tail.within));
       by_index = λ f same at. next f _ _ _ w same at c.tail-2.result tail below
           (head_fails f _ _ _ w same at _ (omega arith) (omega arith) (omega arith)

@@ -1,50 +1,32 @@
 -- `refusals_rulings::reserve_ruling` meets its contract: each way out by its row.
 -- Assumes nothing.
 
-use mathlib.Core.Path.{◌≡◌, sym, ap, ◌∙◌}
-use Prim.Native.Nat.{ℕ}
+use mathlib.Core.Path.{sym, ◌∙◌}
 use native.Mathlib.Omega.{arith}
-use Rattle.catalogue_standings.specs.Rows.{Verdict, accepted, refused, first_of}
-use Rattle.refusals.specs.Effects.{unsearched_verdict}
-use Rattle.roles.specs.Roles.{turned_away}
-use Rattle.refusals.specs.Lent.{called_by, Lent, lent_within}
-use Rattle.refusals.specs.Placement.{Placement, placed}
+use Rattle.std.proofs.lemmas.Result.{err_from_is_err_and}
+use Rattle.catalogue_standings.specs.Rows.{accepted, refused}
+use Rattle.roles.specs.Names.{call_number}
+use Rattle.refusals.specs.Lent.{lent_for, within}
+use Rattle.refusals.specs.Placement.{placed}
 use Rattle.refusals.proofs.Beginnings.{given}
 use Rattle.refusals.proofs.Placement.{figured}
-use Rattle.refusals.proofs.Reserve.{unsearched_zero, passed, searching, verdict_behind, searched, no_fit, too_few, passes}
-use Rattle.refusals.proofs.Reserve.{starts}
-use Rattle.refusals.proofs.Room.{reserve_verdict_on, reserve_start_on}
-use Rattle.refusals_rulings.specs.Rulings.{ruling_of}
-use Rattle.refusals_rulings.specs.declared.Ruling.TheVariants as ruling
-use Rattle.refusals_rulings.proofs.Rulings.{ruled, by_first}
+use Rattle.refusals.proofs.Reserve.{passed, refused_before, searched, no_fit, too_few, passes, starts}
 use Rattle.refusals_rulings.proofs.reserve_ruling.Goals as goal
 
-module _ (q : Lent) (k : ℕ) (p : Placement) where
-  -- the ruling, where no row before the search holds
-  by_search : unsearched_verdict q k p ≡ accepted → (v : Verdict) → first_of (searching q k p) ≡ v
-      → ruling_of v (reserve_start_on q k p) ≡ ruling_of (reserve_verdict_on q k p) (reserve_start_on q k p)
-  by_search comes v h = ruled (reserve_start_on q k p) v (reserve_verdict_on q k p) (searched q k p v comes h)
-
-pub returns-then-row-ne0 : goal.returns-then-row-ne0
-returns-then-row-ne0 c = let call = c.reserve_row-row in
+pub returns-in_err-before_search : goal.returns-in_err-before_search
+returns-in_err-before_search c =
     let a = c.args in
-    let q = called_by (turned_away a.role a.call) (lent_within a.held a.limits.now a.guided a.summary.now a.n a.free a.map.now
-    a.card.now
-    a.c a.entry a.sheet) in
-    let p = placed a.figures in
-    by_first (reserve_start_on q a.k p) (unsearched_verdict q a.k p) (first_of (searching q a.k p))
-    (reserve_verdict_on q a.k p) call.result (verdict_behind q a.k p) call.ensures c.if-row-ne0.true
+    let q = within a.held a.limits.now (lent_for a.asked (call_number a.call) a.guided a.summary.now a.map.now a.card.now) in
+    let p = err_from_is_err_and c.from_residual.result c.from_residual.ensures.1 in
+    rw (p.1, p.2) (refused_before q a.k (placed a.figures) _ c.in_err-before_search.ensures, tt)
 
-pub find_run-found-requires : goal.find_run-found-requires
-find_run-found-requires c = let call = c.reserve_row-row in
+pub find_run-requires : goal.find_run-requires
+find_run-requires c =
     let a = c.args in
-    let q = called_by (turned_away a.role a.call) (lent_within a.held a.limits.now a.guided a.summary.now a.n a.free a.map.now
-    a.card.now
-    a.c a.entry a.sheet) in
-    let w = passed q a.k (placed a.figures)
-    (unsearched_zero q a.k (placed a.figures) (sym call.ensures ∙ c.if-row-ne0.false)) in
+    let q = within a.held a.limits.now (lent_for a.asked (call_number a.call) a.guided a.summary.now a.map.now a.card.now) in
+    let w = passed q a.k (placed a.figures) c.in_ok-before_search.ensures in
     let opens = given q a.k w.opens in
-    let g = figured a.n a.figures w.right in (
+    let g = figured a.asked.n a.figures w.right in (
       omega (arith, opens.sizes.shape.words, opens.sizes.shape.limit),
       omega (arith, opens.sizes.shape.limit, g.inside),
       omega (arith, opens.sizes.shape.covered, g.inside),
@@ -54,35 +36,31 @@ find_run-found-requires c = let call = c.reserve_row-row in
     )
 
 pub returns-in_default : goal.returns-in_default
-returns-in_default c = let a = c.args in
-    let q = called_by (turned_away a.role a.call) (lent_within a.held a.limits.now a.guided a.summary.now a.n a.free a.map.now
-    a.card.now
-    a.c a.entry a.sheet) in
-    let p = placed a.figures in
-    let comes = unsearched_zero q a.k p
-    (sym c.reserve_row-row.ensures ∙ c.if-row-ne0.false) in
-    by_search q a.k p comes (refused 10)
-    (no_fit q a.k p (sym c.find_run-found.ensures ∙ c.in_default.is))
+returns-in_default c =
+    let a = c.args in
+    let q = within a.held a.limits.now (lent_for a.asked (call_number a.call) a.guided a.summary.now a.map.now a.card.now) in
+    let p = placed a.figures in (
+      searched q a.k p (refused 10) c.in_ok-before_search.ensures (no_fit q a.k p (sym c.find_run.ensures ∙ c.in_default.is)),
+      tt,
+    )
 
-pub returns-then-free-k : goal.returns-then-free-k
-returns-then-free-k c = let a = c.args in
-    let q = called_by (turned_away a.role a.call) (lent_within a.held a.limits.now a.guided a.summary.now a.n a.free a.map.now
-    a.card.now
-    a.c a.entry a.sheet) in
-    let p = placed a.figures in
-    let comes = unsearched_zero q a.k p
-    (sym c.reserve_row-row.ensures ∙ c.if-row-ne0.false) in
-    by_search q a.k p comes (refused 4)
-    (too_few q a.k p c.in-At.least (sym c.find_run-found.ensures ∙ c.in-At.is) c.if-free-k.true)
+pub returns-then-asked-k : goal.returns-then-asked-k
+returns-then-asked-k c =
+    let a = c.args in
+    let q = within a.held a.limits.now (lent_for a.asked (call_number a.call) a.guided a.summary.now a.map.now a.card.now) in
+    let p = placed a.figures in (
+      searched q a.k p (refused 4) c.in_ok-before_search.ensures
+          (too_few q a.k p c.in-Some.least (sym c.find_run.ensures ∙ c.in-Some.is) c.if-asked-k.true),
+      tt,
+    )
 
 pub returns : goal.returns
-returns c = let a = c.args in
-    let q = called_by (turned_away a.role a.call) (lent_within a.held a.limits.now a.guided a.summary.now a.n a.free a.map.now
-    a.card.now
-    a.c a.entry a.sheet) in
+returns c =
+    let a = c.args in
+    let q = within a.held a.limits.now (lent_for a.asked (call_number a.call) a.guided a.summary.now a.map.now a.card.now) in
     let p = placed a.figures in
-    let comes = unsearched_zero q a.k p
-    (sym c.reserve_row-row.ensures ∙ c.if-row-ne0.false) in
-    let fit = sym c.find_run-found.ensures ∙ c.in-At.is in
-    ap ruling.At (starts q a.k p c.in-At.least fit)
-    ∙ by_search q a.k p comes accepted (passes q a.k p c.in-At.least fit c.if-free-k.false)
+    let fit = sym c.find_run.ensures ∙ c.in-Some.is in (
+      searched q a.k p accepted c.in_ok-before_search.ensures
+          (passes q a.k p c.in-Some.least fit c.if-asked-k.false),
+      starts q a.k p c.in-Some.least fit,
+    )

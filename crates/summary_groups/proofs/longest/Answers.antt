@@ -13,10 +13,10 @@ returns c =
     let eights = behind w _ 4 _ 4 fours fours in
     let sixteens = behind w _ 8 _ 8 eights eights in
     reach_last w _ _
-    (c.longer.ensures.by_index w
-    (c.longer-r2.ensures.by_index w
-    (c.longer-r4.ensures.by_index w
-    (c.longer-r8.ensures.by_index w
-    (c.longer-r16.ensures.by_index w
-    (c.longer-r32.ensures.by_index w (reach_first w c.requires c.ranges.w.fits)
+    (c.longer-6.ensures.by_index w
+    (c.longer-5.ensures.by_index w
+    (c.longer-4.ensures.by_index w
+    (c.longer-3.ensures.by_index w
+    (c.longer-2.ensures.by_index w
+    (c.longer.ensures.by_index w (reach_first w c.requires c.ranges.w.fits)
     (behind w _ 16 _ 16 sixteens sixteens)) sixteens) eights) fours) twos) (ones w))

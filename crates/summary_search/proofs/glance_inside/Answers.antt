@@ -11,7 +11,7 @@ pub returns-then-group-k : goal.returns-then-group-k
 unfolding inside_of
 returns-then-group-k c = let a = c.args in
     let short : a.group.longest < a.k = omega (arith, c.if-group-k.true) in
-    simp (lt-leb _ _ short, c.smaller-then-group-k.ensures, c.smaller.ensures)
+    simp (lt-leb _ _ short, c.min-then-group-k.ensures, c.min.ensures)
 
 pub returns : goal.returns
 unfolding inside_of

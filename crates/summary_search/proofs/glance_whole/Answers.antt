@@ -34,6 +34,6 @@ returns c = let last = c in
       lt-leb _ _ tests.if-k-s.false,
       lt-leb _ _ short,
       ne_eqb _ _ last.if-group-m.false,
-      c.smaller-2.ensures,
-      c.smaller.ensures,
+      c.min-2.ensures,
+      c.min.ensures,
     )

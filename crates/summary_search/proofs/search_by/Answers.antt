@@ -13,20 +13,16 @@ use Rattle.summary_search.proofs.search_by.Goals as goal
 pub bounds-summary-2 : goal.bounds-summary-2
 bounds-summary-2 c = omega (arith, power_pos (length c.args.map.now))
 
-pub look_near-near-requires : goal.look_near-near-requires
-look_near-near-requires c = let start = c in
-    (omega (arith, start.requires.0, start.requires.1), start.requires.1, start.requires.3, start.requires.4)
+pub look_near-requires : goal.look_near-requires
+look_near-requires c =
+    (omega (arith, c.requires.0, c.requires.1), c.requires.1, c.requires.3, c.requires.4)
 
-pub returns-in_default : goal.returns-in_default
-returns-in_default c = let look = c in
-    let long = look.if-k-summary.true in
-    c.search_down.ensures
-    ∙ none_near _ _ _ _ _ _ long (sym look.look_near-near.ensures ∙ c.in_default.is)
+pub returns-in-Some : goal.returns-in-Some
+returns-in-Some c = found_near _ _ _ _ _ _ c.if-k-summary.true _ (sym c.look_near.ensures ∙ c.in-Some.is)
 
-pub returns-then-k-summary : goal.returns-then-k-summary
-returns-then-k-summary c = let look = c in
-    let long = look.if-k-summary.true in
-    found_near _ _ _ _ _ _ long _ (sym look.look_near-near.ensures ∙ c.in-At.is)
+pub returns-in-None : goal.returns-in-None
+returns-in-None c =
+    c.search_down.ensures ∙ none_near _ _ _ _ _ _ c.if-k-summary.true (sym c.look_near.ensures ∙ c.in-None.is)
 
 pub returns : goal.returns
 returns c = let a = c.args in

@@ -8,12 +8,12 @@ use lib.ListN.{length, get_or}
 use borrow.Author.Tests.{leb-true, leb-false}
 use Rattle.summary_groups.specs.Groups.{power}
 use Rattle.summary_groups.proofs.Places.{power_small, power_pos}
+use Rattle.std.specs.declared.ops.ControlFlow.TheVariants.{Break}
 use Rattle.summary_search.specs.SearchBy.{seek}
-use Rattle.summary_search.specs.Seeking.{step_number}
 use Rattle.summary_search.proofs.Places.{lies_whole}
 use Rattle.summary_search.proofs.Turns.{Turning, short_of, turning_first, turning_late, not-before, sought}
 use Rattle.summary_search.proofs.Turns.{found_none, found-far, found_at, found_nothing}
-use Rattle.summary_search.proofs.search_down.Goals.{After-seek_down-t, After-words_of, Then-ends_before}
+use Rattle.summary_search.proofs.search_down.Goals.{After-seek_down, After-words_of, In-Break, Then-ends_before}
 use Rattle.summary_search.proofs.search_down.Goals as goal
 
 -- how many words group 0 has
@@ -24,17 +24,18 @@ words c =
     c.words_of.ensures (length start.args.map.now) start.requires.2
 
 -- what the search down the groups gave
-number : (c : After-seek_down-t) → c.words_of.result ≡ power (length c.args.map.now)
-    → c.seek_down-t.result ≡ step_number (seek c.args.summary.now
-    (power (length c.args.map.now))
-    c.loop-at.at c.args.k)
-number c w = sought _ _ _ _ _ _ w c.seek_down-t.ensures
+given : (c : After-seek_down) → c.words_of.result ≡ power (length c.args.map.now)
+    → seek c.args.summary.now (power (length c.args.map.now)) c.loop-at.at c.args.k ≡ c.seek_down.result
+given c w = sought _ _ _ _ _ _ w c.seek_down.ensures
+
+-- a start
+start_given : (c : In-Break)
+    → seek c.args.summary.now (power (length c.args.map.now)) c.loop-at.at c.args.k ≡ Break c.in-Break.t
+start_given c = given (goal.at.In-Break c).After-seek_down (words (goal.at.In-Break c).After-words_of) ∙ c.in-Break.is
 
 -- the run that is looked for ends at or before `before`
 fits : (c : Then-ends_before)
-    → c.seek_down-t.result
-    + c.args.k
-    ≤ c.args.before
+    → c.in-Break.t + c.args.k ≤ c.args.before
 fits c = leb-true _ _ (sym c.ends_before.ensures ∙ c.if-ends_before.true)
 
 pub bounds-summary-2 : goal.bounds-summary-2
@@ -59,78 +60,61 @@ loop-at-init c = let a = c.args in
     let l : a.k ≤ get_or a.summary.now 2 0 = omega (arith, c.if-summary-k.false) in
     turning_first a.map.now a.summary.now a.from a.before a.step a.k l
 
-pub seek_down-t-requires : goal.seek_down-t-requires
-seek_down-t-requires c = let begun = c in
-    let start = begun in (
-      lies_whole (length start.args.map.now) _ _ start.requires.0 start.requires.2
-          (words (goal.at.seek_down-t-requires c).After-words_of),
-      omega arith,
-    )
+pub seek_down-requires : goal.seek_down-requires
+seek_down-requires c = (
+  lies_whole (length c.args.map.now) _ _ c.requires.0 c.requires.2 (words (goal.at.seek_down-requires c).After-words_of),
+  c.requires.3,
+)
 
-pub returns-then-t-ge-NONE : goal.returns-then-t-ge-NONE
-returns-then-t-ge-NONE c = let sought = c in
-    let start = sought in
-    found_none _ _ _ _ _ _ start.requires.0 start.requires.3 _ sought.loop-at.invariant _
-    (number (goal.at.returns-then-t-ge-NONE c).After-seek_down-t (words (goal.at.returns-then-t-ge-NONE c).After-words_of))
-    sought.loop-at-test.true c.if-t-ge-NONE.true
+pub returns-in_default : goal.returns-in_default
+returns-in_default c =
+    found_none _ _ _ _ _ _ c.requires.0 c.requires.3 _ c.loop-at.invariant _
+    (given (goal.at.returns-in_default c).After-seek_down (words (goal.at.returns-in_default c).After-words_of)
+    ∙ c.in_default.is)
+    c.loop-at-test.true
 
 pub look_at-requires : goal.look_at-requires
-look_at-requires c = let start = c in
-    (omega arith, start.requires.1, fits (goal.at.look_at-requires c).Then-ends_before, start.requires.3, start.requires.4)
+look_at-requires c =
+    (omega arith, c.requires.1, fits (goal.at.look_at-requires c).Then-ends_before, c.requires.3, c.requires.4)
 
-pub returns-in-At : goal.returns-in-At
-returns-in-At c = let look = c in
-    let test = look in
-    let sought = test in
-    let start = sought in
-    found_at _ _ _ _ _ _ start.requires.0 start.requires.3 _ sought.loop-at.invariant _
-    (number (goal.at.returns-in-At c).After-seek_down-t (words (goal.at.returns-in-At c).After-words_of))
-    test.if-t-ge-NONE.false (fits (goal.at.returns-in-At c).Then-ends_before)
-    sought.loop-at-test.true _ (sym look.look_at.ensures ∙ c.in-At.is)
+pub returns-in-Some : goal.returns-in-Some
+returns-in-Some c =
+    found_at _ _ _ _ _ _ c.requires.0 c.requires.3 _ c.loop-at.invariant _
+    (start_given (goal.at.returns-in-Some c).In-Break) (fits (goal.at.returns-in-Some c).Then-ends_before)
+    c.loop-at-test.true _ (sym c.look_at.ensures ∙ c.in-Some.is)
 
 -- the end of a stretch fits a number
 pub overflow_add-at : goal.overflow_add-at
-overflow_add-at c = let test = c in
-    let start = test in
-    omega (arith, fits (goal.at.overflow_add-at c).Then-ends_before, start.requires.0, start.requires.1, c.stretch_of.ensures)
+overflow_add-at c =
+    omega (arith, fits (goal.at.overflow_add-at c).Then-ends_before, c.requires.0, c.requires.1, c.stretch_of.ensures)
 
-pub overflow_add-at-in-Nothing : goal.overflow_add-at-in-Nothing
-overflow_add-at-in-Nothing c = let test = c in
-    let start = test in
-    let inside = fits (goal.at.overflow_add-at-in-Nothing c).Then-ends_before in
-    omega (arith, inside, start.requires.0, start.requires.1, c.stretch_of.ensures)
+pub overflow_add-at-in-None : goal.overflow_add-at-in-None
+overflow_add-at-in-None c =
+    let inside = fits (goal.at.overflow_add-at-in-None c).Then-ends_before in
+    omega (arith, inside, c.requires.0, c.requires.1, c.stretch_of.ensures)
 
 pub loop-at-smaller : goal.loop-at-smaller
-loop-at-smaller c = let sought = c in
-    let start = sought in
-    omega (
-      arith,
-      sought.loop-at-test.true,
-      not-before start.args.map.now _ _ start.requires.0 start.requires.3 _ _
-          (number (goal.at.loop-at-smaller c).After-seek_down-t (words (goal.at.loop-at-smaller c).After-words_of))
-          c.if-t-ge-NONE.false,
-    )
+loop-at-smaller c = omega (
+  arith,
+  c.loop-at-test.true,
+  not-before c.args.map.now _ _ _ _ c.requires.3 (start_given (goal.at.loop-at-smaller c).In-Break),
+)
 
 pub loop-at-preserved : goal.loop-at-preserved
-loop-at-preserved c = let look = c in
-    let test = look in
-    let sought = test in
-    let start = sought in
-    subst (λ (x : ℕ). Turning start.args.map.now start.args.summary.now start.args.from start.args.before
-    start.args.step start.args.k (sought.seek_down-t.result + x + 1)) (sym c.stretch_of.ensures)
-    (found_nothing _ _ _ _ _ _ start.requires.0 start.requires.3 _ sought.loop-at.invariant _
-    (number (goal.at.loop-at-preserved c).After-seek_down-t (words (goal.at.loop-at-preserved c).After-words_of))
-    test.if-t-ge-NONE.false (fits (goal.at.loop-at-preserved c).Then-ends_before) sought.loop-at-test.true
-    (sym look.look_at.ensures ∙ c.in-Nothing.is))
+loop-at-preserved c =
+    let a = c.args in
+    subst (λ (x : ℕ). Turning a.map.now a.summary.now a.from a.before a.step a.k (c.in-Break.t + x + 1))
+    (sym c.stretch_of.ensures)
+    (found_nothing _ _ _ _ _ _ c.requires.0 c.requires.3 _ c.loop-at.invariant _
+    (start_given (goal.at.loop-at-preserved c).In-Break) (fits (goal.at.loop-at-preserved c).Then-ends_before)
+    c.loop-at-test.true (sym c.look_at.ensures ∙ c.in-None.is))
 
 pub returns-else-ends_before : goal.returns-else-ends_before
-returns-else-ends_before c = let sought = c in
-    let start = sought in
-    found-far _ _ _ _ _ _ start.requires.0 start.requires.3 _ sought.loop-at.invariant _
-    (number (goal.at.returns-else-ends_before c).After-seek_down-t (words (goal.at.returns-else-ends_before c).After-words_of))
-    sought.loop-at-test.true c.if-t-ge-NONE.false
+returns-else-ends_before c =
+    found-far _ _ _ _ _ _ c.requires.0 c.requires.3 _ c.loop-at.invariant _
+    (start_given (goal.at.returns-else-ends_before c).In-Break) c.loop-at-test.true
     (leb-false _ _ (sym c.ends_before.ensures ∙ c.if-ends_before.false))
 
 pub returns : goal.returns
-returns c = let start = c in
-    turning_late _ _ _ _ _ _ start.requires.0 start.requires.3 _ c.loop-at.invariant c.loop-at-test.false
+returns c =
+    turning_late _ _ _ _ _ _ c.requires.0 c.requires.3 _ c.loop-at.invariant c.loop-at-test.false

@@ -4,8 +4,8 @@
 use Rattle.summary_search.specs.Seeking.{Stands, to_go}
 use Rattle.summary_search.proofs.seek_down.Given as goal
 
-abbrev pub invariant-loop-place : goal.invariant-loop-place
-invariant-loop-place l = Stands l.summary l.at l.k l.m l.place
+abbrev pub invariant-loop-next : goal.invariant-loop-next
+invariant-loop-next l = Stands l.summary l.at l.k l.m l.stage
 
-abbrev pub decreases-loop-place : goal.decreases-loop-place
-decreases-loop-place l = to_go l.place.stage l.place.g l.place.base l.place.m
+abbrev pub decreases-loop-next : goal.decreases-loop-next
+decreases-loop-next l = to_go l.stage

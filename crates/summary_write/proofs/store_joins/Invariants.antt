@@ -2,15 +2,12 @@
 -- Assumes nothing.
 
 use mathlib.Core.Path.{◌≡◌}
-use Prim.Native.Nat.{ℕ, ◌-◌, ◌≤◌}
+use Prim.Native.Nat.{ℕ}
 use lib.ListN.{length}
 use Rattle.summary_groups.specs.declared.Group.{Group}
 use Rattle.summary_write.specs.Climbs.{Joins, Stores}
 use Rattle.summary_write.proofs.store_joins.Given as goal
 
 abbrev pub invariant-loop-i : goal.invariant-loop-i
-invariant-loop-i l = (l.g ≤ l.i) × (l.i ≤ l.stop) × (length l.summary ≡ length l.initial.summary)
+invariant-loop-i l = (length l.summary ≡ length l.initial.summary)
     × ((aim : ℕ → Group) → Joins aim l.initial.summary l.g l.stop l.half → Stores aim l.initial.summary l.summary l.g l.i)
-
-abbrev pub decreases-loop-i : goal.decreases-loop-i
-decreases-loop-i l = l.stop - l.i

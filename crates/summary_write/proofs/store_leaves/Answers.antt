@@ -15,7 +15,7 @@ use Rattle.summary_write.proofs.Stored.{none_stored, one_stored, next_stored, st
 use Rattle.summary_write.proofs.store_leaves.Goals as goal
 
 pub loop-i-init : goal.loop-i-init
-loop-i-init c = (omega arith, c.requires.3, refl, λ aim j. none_stored aim _ _ _ (omega arith))
+loop-i-init c = (refl, λ aim j. none_stored aim _ _ _ (omega arith))
 
 pub overflow_add-leaf : goal.overflow_add-leaf
 overflow_add-leaf c =
@@ -33,13 +33,8 @@ store_word-requires c =
     let loop = c.loop-i in
     let i : loop.i < c.args.hi = c.loop-i-test.true in (
       omega (arith, c.requires.1, c.requires.2),
-      omega (arith, c.requires.1, c.requires.2, loop.invariant.2, c.requires.0.long),
+      omega (arith, c.requires.1, c.requires.2, loop.invariant.0, c.requires.0.long),
     )
-
-pub overflow_add-i : goal.overflow_add-i
-overflow_add-i c =
-    let few : power (length c.args.map.now) ≤ 4096 = power_small _ c.requires.0.few in
-    omega (arith, c.requires.1, c.requires.2, c.loop-i-test.true)
 
 pub loop-i-preserved : goal.loop-i-preserved
 loop-i-preserved c =
@@ -49,21 +44,19 @@ loop-i-preserved c =
     let g : ℕ = a.leaf + c.loop-i.i in
     let e : a.leaf + (c.loop-i.i + 1) ≡ g + 1 = omega arith in
     let l : 3 * (a.leaf + c.loop-i.i) + 2 < length c.loop-i.summary =
-    omega (arith, c.requires.1, c.requires.2, c.loop-i.invariant.2, c.requires.0.long) in (
-      omega (arith, c.loop-i.invariant.0),
-      omega arith,
-      c.store_word.auto.summary ∙ c.loop-i.invariant.2,
+    omega (arith, c.requires.1, c.requires.2, c.loop-i.invariant.0, c.requires.0.long) in (
+      c.store_word.auto.summary ∙ c.loop-i.invariant.0,
       λ aim j.
           subst (Stores aim a.summary.now c.store_word.new.summary (a.leaf + a.lo)) (sym e)
-          (next_stored aim _ _ _ _ _ (omega (arith, c.loop-i.invariant.0)) (c.loop-i.invariant.3 aim j)
+          (next_stored aim _ _ _ _ _ (omega (arith, c.loop-i.auto.i)) (c.loop-i.invariant.1 aim j)
           (subst (λ (s : List ℕ). Stores aim at s g (g + 1))
           (sym (c.store_word.ensures ∙ ap (with_group at g) c.free_word.ensures))
           (one_stored aim at g (group_of (usable a.map.now a.n) (64 * c.loop-i.i) 64) l
-          (j c.loop-i.i c.loop-i.invariant.0 i)))),
+          (j c.loop-i.i c.loop-i.auto.i i)))),
     )
 
 pub returns : goal.returns
 returns c =
     let loop = c.loop-i in
-    let all : c.args.hi ≡ loop.i = omega (arith, c.loop-i-test.false, loop.invariant.1) in
-    λ aim j. stored_all aim _ _ _ _ _ (omega arith) (loop.invariant.3 aim j)
+    let all : c.args.hi ≡ loop.i = omega arith in
+    λ aim j. stored_all aim _ _ _ _ _ (omega arith) (loop.invariant.1 aim j)

@@ -2,7 +2,7 @@
 -- Assumes nothing.
 
 use mathlib.Core.Path.{◌≡◌}
-use Prim.Native.Nat.{ℕ, ◌+◌, ◌-◌, ◌*◌, ◌≤◌, ◌<◌}
+use Prim.Native.Nat.{ℕ, ◌+◌, ◌*◌, ◌≤◌, ◌<◌}
 use lib.ListN.{length}
 use Rattle.summary_groups.specs.declared.Group.{Group}
 use Rattle.summary_groups.specs.Groups.{group_of}
@@ -11,9 +11,6 @@ use Rattle.summary_write.specs.Climbs.{Stores}
 use Rattle.summary_write.proofs.store_leaves.Given as goal
 
 abbrev pub invariant-loop-i : goal.invariant-loop-i
-invariant-loop-i l = (l.lo ≤ l.i) × (l.i ≤ l.hi) × (length l.summary ≡ length l.initial.summary)
+invariant-loop-i l = (length l.summary ≡ length l.initial.summary)
     × ((aim : ℕ → Group) → ((i : ℕ) → l.lo ≤ i → i < l.hi → group_of (usable l.map l.n) (64 * i) 64 ≡ aim (l.leaf + i))
     → Stores aim l.initial.summary l.summary (l.leaf + l.lo) (l.leaf + l.i))
-
-abbrev pub decreases-loop-i : goal.decreases-loop-i
-decreases-loop-i l = l.hi - l.i

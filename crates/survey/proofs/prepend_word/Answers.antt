@@ -19,16 +19,8 @@ returns-then-w-eq0 c = let a = c.args in record {
   head_bound_2 = omega arith;
 }
 
-pub prepend_word_short-requires : goal.prepend_word_short-requires
-prepend_word_short-requires c =
-    record {
-      ruled = (c.requires.ruled, c.bytes_short.ensures c.if-bytes_short.true);
-      le_longest = (omega arith, omega arith, omega arith);
-    }
+pub prepend_word_short-requires-clause-short : goal.prepend_word_short-requires-clause-short
+prepend_word_short-requires-clause-short c = c.bytes_short.ensures c.if-bytes_short.true
 
-pub prepend_word_apart-requires : goal.prepend_word_apart-requires
-prepend_word_apart-requires c =
-    record {
-      ruled = (c.requires.ruled, c.bytes_apart.ensures c.if-bytes_apart.true);
-      head_bound = c.requires.head_bound;
-    }
+pub prepend_word_apart-requires-clause-apart : goal.prepend_word_apart-requires-clause-apart
+prepend_word_apart-requires-clause-apart c = c.bytes_apart.ensures c.if-bytes_apart.true

@@ -14,6 +14,9 @@ use Rattle.survey_bytes.specs.Runs.{head_of, longest_of, runs_of}
 use Rattle.survey_bytes.specs.Bytes.{bits_of, column}
 use Rattle.survey_words.specs.Passing.{Summary}
 use Rattle.survey.specs.Survey.{free_of}
+use Rattle.survey.specs.Words.{Before}
+use Rattle.survey.specs.declared.table.TheConstants.{TABLE}
+use mathlib.Core.Bool.{Bool}
 use Rattle.survey.proofs.Blocks.{free_append}
 use Rattle.survey.proofs.Passing.{rest, rest_more, counted, nothing, ones_before}
 use Rattle.survey.proofs.Rule.{right, ruled}
@@ -24,8 +27,18 @@ use Rattle.survey.proofs.survey.Goals as goal
 pub loop-i-init : goal.loop-i-init
 loop-i-init c =
     let a = c.args in
-    let start = nothing (free a.map.now) a.n (words_for a.n) in
-    (omega arith, start.0, start.1, omega arith, omega arith, omega arith, c.last_part-mask.ensures, omega arith)
+    let e : words_for a.n ≡ c.div_ceil-words.result = omega (arith, c.div_ceil-words.ensures) in
+    let f : ℕ → Bool = free a.map.now in
+    let start = nothing f a.n (words_for a.n) in (
+      omega arith,
+      subst (λ (i : ℕ). Summary 0 0 0 (rest f a.n (words_for a.n) i)) e start.0,
+      subst (λ (i : ℕ). 0 ≡ free_of (rest f a.n (words_for a.n) i)) e start.1,
+      omega arith,
+      omega arith,
+      omega arith,
+      subst (λ (i : ℕ). Before a.n i c.last_part-mask.result) e c.last_part-mask.ensures,
+      omega arith,
+    )
 
 pub overflow_add-free : goal.overflow_add-free
 overflow_add-free c =
@@ -34,9 +47,9 @@ overflow_add-free c =
     let small : bit_and word loop.mask < 2 ^ 64 = omega (arith, and_le_r word loop.mask, loop.invariant.7) in
     omega (arith, ones-le 64 (bit_and word loop.mask) small)
 
-pub prepend_word-passed-requires : goal.prepend_word-passed-requires
+pub new-table-requires : goal.new-table-requires
 unfolding right bits_of head_of longest_of runs_of column
-prepend_word-passed-requires c = record { ruled = ruled _ refl tt; head_bound = omega arith }
+new-table-requires c = ruled TABLE refl tt
 
 pub loop-i-preserved : goal.loop-i-preserved
 loop-i-preserved c =

@@ -19,6 +19,3 @@ invariant-loop-i l = (l.i ≤ words_for l.n) × Summary l.passed.head l.passed.l
     × (l.passed.head ≤ 2040 * (words_for l.n - l.i)) × (l.passed.runs ≤ 2040 * (words_for l.n - l.i))
     × (l.free ≤ 64 * (words_for l.n - l.i))
     × Before l.n l.i l.mask × (l.mask < 2 ^ 64)
-
-abbrev pub decreases-loop-i : goal.decreases-loop-i
-decreases-loop-i l = l.i

@@ -8,18 +8,12 @@ use Rattle.survey_words.proofs.Joining.{tail_runs}
 use Rattle.survey_words.proofs.Prepending.{summary}
 use Rattle.survey_words.proofs.prepend_byte.Goals as goal
 
-pub joined_head-requires : goal.joined_head-requires
-joined_head-requires c = (omega (arith, c.byte_head.ensures.1), omega (arith, c.requires.head_bound))
-
-pub overflow_add-t : goal.overflow_add-t
-overflow_add-t c = omega (arith, c.byte_tail-t.ensures.1, c.requires.head_bound)
-
 pub joined_runs-requires : goal.joined_runs-requires
 joined_runs-requires c = (
   omega (arith, c.byte_tail-t.ensures.1),
   omega (arith, c.byte_runs-n.ensures.1),
-  omega (arith, c.requires.head_bound),
-  omega (arith, c.requires.head_bound),
+  c.requires.0,
+  c.requires.1,
   λ p. omega (
     arith,
     c.byte_runs-n.ensures.0,
@@ -32,6 +26,6 @@ returns c = let a = c.args in record {
   summary = summary (a.w % 256) _ _ _ _ a.passed.head a.passed.longest a.passed.runs _ _ _ _
       c.byte_head.ensures.0 c.byte_tail-t.ensures.0 c.byte_longest-l.ensures
       c.byte_runs-n.ensures.0 c.joined_head.ensures.0
-      c.larger.ensures c.larger-2.ensures c.joined_runs.ensures.0;
+      c.max.ensures c.max-2.ensures c.joined_runs.ensures.0;
   head_bound_2 = (c.joined_head.ensures.1, c.joined_runs.ensures.1);
 }

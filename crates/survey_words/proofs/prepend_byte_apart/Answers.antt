@@ -7,13 +7,10 @@ use native.Mathlib.Omega.{arith}
 use Rattle.survey_words.proofs.Prepending.{summary_apart}
 use Rattle.survey_words.proofs.prepend_byte_apart.Goals as goal
 
-pub overflow_add-result : goal.overflow_add-result
-overflow_add-result c = omega (arith, c.byte_runs-n.ensures.1, c.requires.runs_bound)
-
 pub returns : goal.returns
 returns c = let a = c.args in record {
   summary = summary_apart (a.w % 256) _ _ _ a.passed.head a.passed.longest a.passed.runs _ _
       c.byte_head.ensures.0 c.byte_longest-l.ensures c.byte_runs-n.ensures.0
-      c.larger.ensures refl;
+      c.max.ensures refl;
   head_bound = (omega (arith, c.byte_head.ensures.1), omega (arith, c.byte_runs-n.ensures.1));
 }

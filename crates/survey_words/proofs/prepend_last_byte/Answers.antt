@@ -11,7 +11,7 @@ use Rattle.survey_words.proofs.Apart.{byte_parts}
 use Rattle.survey_words.proofs.prepend_last_byte.Goals as goal
 
 pub overflow_mul-w : goal.overflow_mul-w
-overflow_mul-w c = record { fits = omega (arith, mul-le-mul_left (c.args.w % 2) c.requires.head_bound.0) }
+overflow_mul-w c = record { fits = omega (arith, mul-le-mul_left (c.args.w % 2) c.requires.0) }
 
 pub returns-then-w-passed-eq0 : goal.returns-then-w-passed-eq0
 returns-then-w-passed-eq0 c = let a = c.args in record {

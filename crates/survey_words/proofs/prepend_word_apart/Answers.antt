@@ -2,59 +2,35 @@
 -- passed.
 -- Assumes nothing.
 
-use mathlib.Core.Path.{subst}
-use Prim.Native.Nat.{◌/◌}
-use native.Mathlib.Omega.{arith}
-use Rattle.survey_words.specs.Passing.{Summary}
-use Rattle.survey_words.proofs.Apart.{bytes_part}
-use Rattle.survey_words.proofs.Words.{word_bits}
+use Rattle.std.proofs.Common.{arith}
+use Rattle.survey_words.proofs.Apart.{all_apart, first_apart, next_apart, byte_apart}
 use Rattle.survey_words.proofs.prepend_word_apart.Goals as goal
 
-pub prepend_byte_apart-requires : goal.prepend_byte_apart-requires
-prepend_byte_apart-requires c = record {
-  ruled = c.requires.ruled.0;
-  runs_bound = omega (
-    arith,
-    c.requires.head_bound,
-    c.prepend_last_byte-p0.ensures.head_bound_2,
-    c.prepend_byte_apart-p1.ensures.head_bound,
-    c.prepend_byte_apart-p2.ensures.head_bound,
-    c.prepend_byte_apart-p3.ensures.head_bound,
-    c.prepend_byte_apart-p4.ensures.head_bound,
-    c.prepend_byte_apart-p5.ensures.head_bound,
-    c.prepend_byte_apart-p6.ensures.head_bound,
-  );
-}
+pub loop-byte-init : goal.loop-byte-init
+loop-byte-init c =
+    let told = c.prepend_last_byte-before.ensures in (
+      omega (arith, told.head_bound_2),
+      omega (arith, told.head_bound_2),
+      c.requires.apart.1,
+      λ ys s. first_apart c.args.w ys _ _ _ c.requires.apart (told.summary ys s),
+    )
 
-pub returns : goal.returns
-returns c =
-    let pre = c.requires in
-    let w = c.args.w in record {
-      summary = λ ys s. subst (Summary _ _ _) (word_bits 8 w ys)
-          (c.prepend_byte_apart.ensures.summary _ (c.prepend_byte_apart-p6.ensures.summary _
-          (c.prepend_byte_apart-p5.ensures.summary _
-          (c.prepend_byte_apart-p4.ensures.summary _
-          (c.prepend_byte_apart-p3.ensures.summary _
-          (c.prepend_byte_apart-p2.ensures.summary _
-          (c.prepend_byte_apart-p1.ensures.summary _
-          (c.prepend_last_byte-p0.ensures.summary ys s)
-          (bytes_part w _ pre.ruled.1.0)) (bytes_part (w / 256) _ pre.ruled.1.1.0))
-          (bytes_part (w / 256 / 256) _ pre.ruled.1.1.1.0))
-          (bytes_part (w / 256 / 256 / 256) _ pre.ruled.1.1.1.1.0))
-          (bytes_part (w / 256 / 256 / 256 / 256) _ pre.ruled.1.1.1.1.1.0))
-          (bytes_part (w / 256 / 256 / 256 / 256 / 256) _
-          pre.ruled.1.1.1.1.1.1.0))
-          (bytes_part (w / 256 / 256 / 256 / 256 / 256 / 256) _
-          pre.ruled.1.1.1.1.1.1.1.0));
-      head_bound_2 = omega (
-        arith,
-        c.prepend_last_byte-p0.ensures.head_bound_2,
-        c.prepend_byte_apart-p1.ensures.head_bound,
-        c.prepend_byte_apart-p2.ensures.head_bound,
-        c.prepend_byte_apart-p3.ensures.head_bound,
-        c.prepend_byte_apart-p4.ensures.head_bound,
-        c.prepend_byte_apart-p5.ensures.head_bound,
-        c.prepend_byte_apart-p6.ensures.head_bound,
-        c.prepend_byte_apart.ensures.head_bound,
-      );
-    }
+pub prepend_byte_apart-before-requires : goal.prepend_byte_apart-before-requires
+prepend_byte_apart-before-requires c = omega (arith, c.loop-byte.invariant.1, c.requires.head_bound)
+
+pub loop-byte-preserved : goal.loop-byte-preserved
+loop-byte-preserved c =
+    let told = c.prepend_byte_apart-before.ensures in (
+      omega (arith, told.head_bound),
+      omega (arith, told.head_bound, c.loop-byte.invariant.1),
+      next_apart c.loop-byte._byte c.loop-byte.rest c.loop-byte-test.true c.loop-byte.invariant.2,
+      λ ys s. byte_apart c.loop-byte._byte c.loop-byte.rest _ _ _ _ _ _ _ c.loop-byte-test.true c.loop-byte.invariant.2
+          (c.loop-byte.invariant.3 ys s) told.summary,
+    )
+
+pub returns-clause-summary : goal.returns-clause-summary
+returns-clause-summary c = λ ys s. all_apart c.loop-byte._byte _ _ _ _ _ (omega arith) (c.loop-byte.invariant.3 ys s)
+
+pub returns-clause-head_bound_2 : goal.returns-clause-head_bound_2
+returns-clause-head_bound_2 c =
+    (omega (arith, c.loop-byte.invariant.0), omega (arith, c.loop-byte.invariant.1))

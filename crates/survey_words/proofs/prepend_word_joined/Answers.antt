@@ -9,26 +9,34 @@ use Rattle.survey_words.proofs.Words.{word_bits}
 use Rattle.survey_words.proofs.prepend_word_joined.Goals as goal
 
 pub prepend_byte-p6-requires : goal.prepend_byte-p6-requires
-prepend_byte-p6-requires c = record {
-  ruled = c.requires.ruled;
-  head_bound = omega (
+prepend_byte-p6-requires c = (
+  omega (
     arith,
-    c.requires.head_bound,
+    c.requires,
     c.prepend_byte-p5.ensures.head_bound_2,
     c.prepend_byte-p4.ensures.head_bound_2,
     c.prepend_byte-p3.ensures.head_bound_2,
     c.prepend_byte-p2.ensures.head_bound_2,
     c.prepend_byte-p1.ensures.head_bound_2,
     c.prepend_byte-p0.ensures.head_bound_2,
-  );
-}
+  ),
+  omega (
+    arith,
+    c.requires,
+    c.prepend_byte-p5.ensures.head_bound_2,
+    c.prepend_byte-p4.ensures.head_bound_2,
+    c.prepend_byte-p3.ensures.head_bound_2,
+    c.prepend_byte-p2.ensures.head_bound_2,
+    c.prepend_byte-p1.ensures.head_bound_2,
+    c.prepend_byte-p0.ensures.head_bound_2,
+  ),
+)
 
 pub prepend_byte-p7-requires : goal.prepend_byte-p7-requires
-prepend_byte-p7-requires c = record {
-  ruled = c.requires.ruled;
-  head_bound = omega (
+prepend_byte-p7-requires c = (
+  omega (
     arith,
-    c.requires.head_bound,
+    c.requires,
     c.prepend_byte-p6.ensures.head_bound_2,
     c.prepend_byte-p5.ensures.head_bound_2,
     c.prepend_byte-p4.ensures.head_bound_2,
@@ -36,8 +44,19 @@ prepend_byte-p7-requires c = record {
     c.prepend_byte-p2.ensures.head_bound_2,
     c.prepend_byte-p1.ensures.head_bound_2,
     c.prepend_byte-p0.ensures.head_bound_2,
-  );
-}
+  ),
+  omega (
+    arith,
+    c.requires,
+    c.prepend_byte-p6.ensures.head_bound_2,
+    c.prepend_byte-p5.ensures.head_bound_2,
+    c.prepend_byte-p4.ensures.head_bound_2,
+    c.prepend_byte-p3.ensures.head_bound_2,
+    c.prepend_byte-p2.ensures.head_bound_2,
+    c.prepend_byte-p1.ensures.head_bound_2,
+    c.prepend_byte-p0.ensures.head_bound_2,
+  ),
+)
 
 pub returns : goal.returns
 returns c = record {

@@ -1,33 +1,22 @@
 -- `survey_words::runs_of_bytes` meets its contract.
 -- Assumes nothing.
 
-use native.Mathlib.Omega.{arith}
-use Rattle.survey_words.specs.Passing.{runs_in}
+use Rattle.std.proofs.Common.{arith}
+use Rattle.survey_words.proofs.Counting.{runs_more, runs_all}
 use Rattle.survey_words.proofs.runs_of_bytes.Goals as goal
 
-pub returns : goal.returns
-unfolding runs_in
-returns c = (
+pub loop-byte-preserved : goal.loop-byte-preserved
+loop-byte-preserved c = (
+  omega arith,
   omega (
     arith,
-    c.byte_runs.ensures,
-    c.byte_runs-2.ensures,
-    c.byte_runs-3.ensures,
-    c.byte_runs-4.ensures,
-    c.byte_runs-5.ensures,
-    c.byte_runs-6.ensures,
-    c.byte_runs-7.ensures,
-    c.byte_runs-8.ensures,
-  ),
-  omega (
-    arith,
-    c.byte_runs.ensures,
-    c.byte_runs-2.ensures,
-    c.byte_runs-3.ensures,
-    c.byte_runs-4.ensures,
-    c.byte_runs-5.ensures,
-    c.byte_runs-6.ensures,
-    c.byte_runs-7.ensures,
-    c.byte_runs-8.ensures,
+    c.loop-byte.invariant.1,
+    c.byte_runs-runs.ensures.0,
+    runs_more c.loop-byte._byte c.loop-byte.rest c.loop-byte-test.true,
   ),
 )
+
+pub returns : goal.returns
+returns c =
+    let i = c.loop-byte.invariant in
+    (omega (arith, i.1, runs_all c.loop-byte._byte c.loop-byte.rest (omega arith)), omega arith)

@@ -18,8 +18,8 @@ joined_runs-requires c =
     let w : ℕ = c.args.w in (
       omega (arith, c.byte_tail.ensures.1),
       omega (arith, c.runs_of_bytes.ensures),
-      omega (arith, c.requires.head_bound),
-      omega (arith, c.requires.head_bound),
+      omega (arith, c.requires.0),
+      omega (arith, c.requires.1),
       λ p. omega (
         arith,
         alone w,

@@ -1,10 +1,10 @@
 -- `call_put::places::look` meets its contract. The loop's invariant: the places passed are blank or sound each, and the
--- lowest blank one among them is known. The measure is how many are left.
+-- lowest blank one among them is known.
 -- Assumes nothing.
 
 use mathlib.Core.Bool.{Bool}
 use mathlib.Core.List.{List}
-use Prim.Native.Nat.{ℕ, ◌+◌, ◌-◌, ◌≤◌}
+use Prim.Native.Nat.{ℕ, ◌+◌}
 use Rattle.blocks_of_card.specs.Card.{block_of}
 use Rattle.block_seals.specs.Sealed.{blank, sound}
 use Rattle.call_put.proofs.Fillings.{Passed}
@@ -17,8 +17,4 @@ abbrev pub soundIn : List ℕ → ℕ → ℕ → ℕ → Bool
 soundIn card start sheet p = sound sheet p (block_of card (start + p))
 
 abbrev pub invariant-loop-place : goal.invariant-loop-place
-invariant-loop-place l = (l.place ≤ l.blocks)
-    × Passed (blankIn l.card l.start) (soundIn l.card l.start l.sheet) l.place l.passed
-
-abbrev pub decreases-loop-place : goal.decreases-loop-place
-decreases-loop-place l = l.blocks - l.place
+invariant-loop-place l = Passed (blankIn l.card l.start) (soundIn l.card l.start l.sheet) l.place l.lowest

@@ -2,24 +2,21 @@
 -- inside the card.
 -- Assumes nothing.
 
+use mathlib.Core.Path.{◌≡◌}
 use native.Mathlib.Omega.{arith}
-use Rattle.refusals.specs.Lent.{lent_within, called_by}
+use Rattle.catalogue_standings.proofs.Followed.{following, refusing}
+use Rattle.refusals.specs.Lent.{lent_for, within}
 use Rattle.roles.specs.Roles as names
-use Rattle.roles.specs.Roles.{turned_away}
 use Rattle.refusals.proofs.Grow.{end, unchanged, changed}
 use Rattle.refusals.proofs.Room.{grow_verdict_on, grow_room}
-use Rattle.refusals_rulings.proofs.Rulings.{accepts, refuses}
 use Rattle.call_reserve.proofs.grow.grow.Goals as goal
 
 pub occupy-requires : goal.occupy-requires
 occupy-requires c =
     let call = c.grow_ruling in
     let a = c.args in
-    let q = called_by (turned_away a.role names.grow) (lent_within a.held a.limits.now a.guided a.summary.now
-    a.n a.free a.map.now
-    a.card.now
-    a.c a.entry a.sheet) in
-    let ruled = accepts (end q a.m) call.result (grow_verdict_on q a.m) c.in-At.end call.ensures c.in-At.is in
+    let q = within a.held a.limits.now (lent_for a.asked names.grow a.guided a.summary.now a.map.now a.card.now) in
+    let ruled = following (grow_verdict_on q a.m) (λ s. s ≡ end q a.m) c.in-Ok.is call.ensures in
     let room = grow_room q a.m ruled.0 in (
       omega (arith, room.inside, ruled.1),
       omega (arith, room.sizes.shape.limit),
@@ -33,45 +30,33 @@ pub overflow_sub-result : goal.overflow_sub-result
 overflow_sub-result c =
     let call = c.grow_ruling in
     let a = c.args in
-    let q = called_by (turned_away a.role names.grow) (lent_within a.held a.limits.now a.guided a.summary.now
-    a.n a.free a.map.now
-    a.card.now
-    a.c a.entry a.sheet) in
-    let ruled = accepts (end q a.m) call.result (grow_verdict_on q a.m) c.in-At.end call.ensures c.in-At.is in
+    let q = within a.held a.limits.now (lent_for a.asked names.grow a.guided a.summary.now a.map.now a.card.now) in
+    let ruled = following (grow_verdict_on q a.m) (λ s. s ≡ end q a.m) c.in-Ok.is call.ensures in
     omega (arith, (grow_room q a.m ruled.0).enough)
 
 pub overflow_add-result : goal.overflow_add-result
 overflow_add-result c =
     let call = c.grow_ruling in
     let a = c.args in
-    let q = called_by (turned_away a.role names.grow) (lent_within a.held a.limits.now a.guided a.summary.now
-    a.n a.free a.map.now
-    a.card.now
-    a.c a.entry a.sheet) in
-    let ruled = accepts (end q a.m) call.result (grow_verdict_on q a.m) c.in-At.end call.ensures c.in-At.is in
+    let q = within a.held a.limits.now (lent_for a.asked names.grow a.guided a.summary.now a.map.now a.card.now) in
+    let ruled = following (grow_verdict_on q a.m) (λ s. s ≡ end q a.m) c.in-Ok.is call.ensures in
     let room = grow_room q a.m ruled.0 in
     omega (arith, room.inside, room.sizes.shape.limit)
 
-pub returns-in-Refused : goal.returns-in-Refused
-returns-in-Refused c =
+pub returns-in-Err : goal.returns-in-Err
+returns-in-Err c =
     let call = c.grow_ruling in
     let a = c.args in
-    let q = called_by (turned_away a.role names.grow) (lent_within a.held a.limits.now a.guided a.summary.now
-    a.n a.free a.map.now
-    a.card.now
-    a.c a.entry a.sheet) in
-    unchanged q a.m c.in-Refused.row c.refusal.result
-    (refuses (end q a.m) call.result (grow_verdict_on q a.m) c.in-Refused.row call.ensures c.in-Refused.is)
+    let q = within a.held a.limits.now (lent_for a.asked names.grow a.guided a.summary.now a.map.now a.card.now) in
+    unchanged q a.m _ c.refusal.result
+    (refusing (grow_verdict_on q a.m) (λ s. s ≡ end q a.m) c.in-Err.is call.ensures)
     c.refusal.ensures
 
-pub returns-in-At : goal.returns-in-At
-returns-in-At c =
+pub returns-in-Ok : goal.returns-in-Ok
+returns-in-Ok c =
     let call = c.grow_ruling in
     let a = c.args in
-    let q = called_by (turned_away a.role names.grow) (lent_within a.held a.limits.now a.guided a.summary.now
-    a.n a.free a.map.now
-    a.card.now
-    a.c a.entry a.sheet) in
-    let ruled = accepts (end q a.m) call.result (grow_verdict_on q a.m) c.in-At.end call.ensures c.in-At.is in
+    let q = within a.held a.limits.now (lent_for a.asked names.grow a.guided a.summary.now a.map.now a.card.now) in
+    let ruled = following (grow_verdict_on q a.m) (λ s. s ≡ end q a.m) c.in-Ok.is call.ensures in
     let done = c.occupy.ensures in
-    changed q a.m c.in-At.end _ _ _ ruled.0 ruled.1 done.0 done.1 done.2
+    changed q a.m c.in-Ok.end _ _ _ ruled.0 ruled.1 done.0 done.1 done.2

@@ -1,60 +1,25 @@
--- `show_dated` meets its contract: one of the first rows refuses it, or one of its date's, or the block of the place decides.
+-- `call_show::dated::show_dated` meets its contract: the answer of the verdict.
 -- Assumes nothing.
 
-use native.Mathlib.Omega.{arith}
-use Rattle.roles.specs.Roles as names
-use Rattle.roles.specs.Roles.{turned_away}
-use Rattle.refusals.specs.Lent.{called_by, lent}
+use mathlib.Core.Path.{◌∙◌}
+use mathlib.Core.Bool.{false}
+use mathlib.Core.List.{[]}
 use Rattle.calendar.specs.Calendar.{date_of}
-use Rattle.refusals.proofs.ShowDated.{by_first, by-term, by_block, term_zero}
-use Rattle.refusals.proofs.Showing.{showing_zero, number_fits, in-card, first-in-card, sized-buffer}
+use Rattle.roles.specs.Roles as names
+use Rattle.refusals.specs.Lent.{lent_for}
+use Rattle.refusals.proofs.ShowDated.{answered}
 use Rattle.call_show.proofs.dated.show_dated.Goals as goal
 
-pub returns-then-row-ne0 : goal.returns-then-row-ne0
-returns-then-row-ne0 c = let a = c.args in
-    let q = called_by (turned_away a.role names.show_dated) (lent a.n a.free a.map.now a.card.now a.c a.entry a.sheet) in
-    by_first q a.place (date_of a.year a.month a.day) a.buffer.now _ c.showing_row-row.ensures
-    c.if-row-ne0.true
+pub returns-in-Err : goal.returns-in-Err
+returns-in-Err c =
+    let a = c.args in (
+      c.answer.ensures ∙ answered (lent_for a.asked names.show_dated false [] a.map.now a.card.now) a.place
+          (date_of a.year a.month a.day) a.buffer.now c.in-Err.ensures.0,
+      c.copied.ensures.1,
+    )
 
-pub term_row-outside-requires : goal.term_row-outside-requires
-term_row-outside-requires c = let row = c in
-    let a = row.args in
-    let q = called_by (turned_away a.role names.show_dated) (lent a.n a.free a.map.now a.card.now a.c a.entry a.sheet) in
-    let opens = showing_zero q a.place a.buffer.now _ row.showing_row-row.ensures row.if-row-ne0.false in
-    first-in-card q a.place a.buffer.now opens
-
-pub returns-then-outside-ne0 : goal.returns-then-outside-ne0
-returns-then-outside-ne0 c = let date = c in
-    let row = date in
-    let a = row.args in
-    let q = called_by (turned_away a.role names.show_dated) (lent a.n a.free a.map.now a.card.now a.c a.entry a.sheet) in
-    let opens = showing_zero q a.place a.buffer.now _ row.showing_row-row.ensures row.if-row-ne0.false in
-    by-term q a.place (date_of a.year a.month a.day) a.buffer.now opens _ c.term_row-outside.ensures
-    c.if-outside-ne0.true
-
-pub overflow_add-entry : goal.overflow_add-entry
-overflow_add-entry c = let date = c in
-    let row = date in
-    let a = row.args in
-    let q = called_by (turned_away a.role names.show_dated) (lent a.n a.free a.map.now a.card.now a.c a.entry a.sheet) in
-    let opens = showing_zero q a.place a.buffer.now _ row.showing_row-row.ensures row.if-row-ne0.false in
-    omega (arith, number_fits q a.place a.buffer.now opens)
-
-pub show_block-requires : goal.show_block-requires
-show_block-requires c = let date = c in
-    let row = date in
-    let a = row.args in
-    let q = called_by (turned_away a.role names.show_dated) (lent a.n a.free a.map.now a.card.now a.c a.entry a.sheet) in
-    let opens = showing_zero q a.place a.buffer.now _ row.showing_row-row.ensures row.if-row-ne0.false in
-    let inside = in-card q a.place a.buffer.now opens in
-    (omega (arith, inside), sized-buffer q a.place a.buffer.now opens)
-
-pub returns : goal.returns
-returns c = let date = c in
-    let row = date in
-    let a = row.args in
-    let q = called_by (turned_away a.role names.show_dated) (lent a.n a.free a.map.now a.card.now a.c a.entry a.sheet) in
-    let opens = showing_zero q a.place a.buffer.now _ row.showing_row-row.ensures row.if-row-ne0.false in
-    by_block q a.place (date_of a.year a.month a.day) a.buffer.now opens
-    (term_zero _ _ _ _ date.term_row-outside.ensures date.if-outside-ne0.false) _ _
-    c.show_block.ensures.0 c.show_block.ensures.1
+pub returns-in-Ok : goal.returns-in-Ok
+returns-in-Ok c =
+    let a = c.args in
+    let q = lent_for a.asked names.show_dated false [] a.map.now a.card.now in
+    (answered q a.place (date_of a.year a.month a.day) a.buffer.now c.in-Ok.ensures.0, c.copied.ensures.1)

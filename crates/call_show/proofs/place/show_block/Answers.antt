@@ -1,17 +1,24 @@
--- `show_block` meets its contract: the block is not sound, or its payload is copied out.
+-- `call_show::place::show_block` meets its contract: the block is not sound, or its payload is copied out.
 -- Assumes nothing.
 
-use mathlib.Core.Path.{refl}
-use Rattle.catalogue_standings.specs.Rows.{accepted, refused}
+use mathlib.Core.Path.{sym, ap, ◌∙◌}
+use Rattle.blocks_of_card.specs.Card.{block_of}
+use Rattle.catalogue_standings.specs.Rows.{Verdict}
 use Rattle.catalogue_standings.proofs.Tested.{fails, holds}
-use Rattle.refusals.proofs.Show.{told, not_sound, is_sound}
+use Rattle.refusals.specs.Effects.{shown_buffer}
+use Rattle.refusals.proofs.Show.{not_sound, is_sound}
 use Rattle.call_show.proofs.place.show_block.Goals as goal
 
 pub returns-then-not-sound_block : goal.returns-then-not-sound_block
-returns-then-not-sound_block c = told _ (refused 4) (not_sound _ (fails c.sound_block.ensures c.if-not-sound_block.true-raw)) _
-    _ _ _ refl refl
+returns-then-not-sound_block c =
+    let a = c.args in
+    let told = not_sound _ (fails c.sound_block.ensures c.if-not-sound_block.true-raw) in
+    (told, sym (ap (λ (v : Verdict). shown_buffer v (block_of a.card.now a.b) a.buffer.now) told))
 
 pub returns : goal.returns
-returns c = let if1 = c in
-    told _ accepted (is_sound _ (holds if1.sound_block.ensures if1.if-not-sound_block.false-raw)) _ _ _ _ refl
-    c.copy_payload.ensures
+returns c =
+    let a = c.args in
+    let told = is_sound _ (holds c.sound_block.ensures c.if-not-sound_block.false-raw) in (
+      told,
+      c.copy_payload.ensures ∙ sym (ap (λ (v : Verdict). shown_buffer v (block_of a.card.now a.b) a.buffer.now) told),
+    )

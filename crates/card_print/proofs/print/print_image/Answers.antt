@@ -1,20 +1,30 @@
--- `card_print::print::print_image`: what its parts come to is what it prints and leaves (`prints`).
+-- `card_print::print::print_image`: the text of the refusal, or of the card that load left, is what is to be printed.
 -- Assumes nothing.
-use Rattle.std.proofs.Common.{◌∙◌}
-use Rattle.card_print.proofs.Prints.{prints}
+use Rattle.std.proofs.Common.{ap, ◌∙◌}
+use Rattle.pagunlit_replies.specs.Replies.{reply_of}
+use Rattle.card_print.proofs.Prints.{surveyed, refusal_ends, card_ends}
 use Rattle.card_print.proofs.print.print_image.Goals as goal
+
+pub survey-counts-requires : goal.survey-counts-requires
+survey-counts-requires c =
+    let a = c.args in
+    let e = c.load-outcome.ensures in
+    surveyed a.shape a.role a.image.now a.map.now a.catalogue.now a.scratch.now a.text.now
+    c.reply_of-loaded.result _ _ _ (c.reply_of-loaded.ensures ∙ ap reply_of e.0) e.1 e.2 e.3 c.if-loaded-ne0.false
+
+pub returns-then-loaded-ne0 : goal.returns-then-loaded-ne0
+returns-then-loaded-ne0 c =
+    let a = c.args in
+    let e = c.load-outcome.ensures in
+    refusal_ends a.shape a.role a.image.now a.map.now a.catalogue.now a.scratch.now a.text.now
+    c.reply_of-loaded.result _ _ _ (c.reply_of-loaded.ensures ∙ ap reply_of e.0) e.1 e.2 e.3
+    c.describe_refusal.result c.describe_refusal.new.text c.if-loaded-ne0.true c.describe_refusal.ensures
 
 pub returns : goal.returns
 returns c =
     let a = c.args in
-    let p = prints a.shape a.role a.image.now a.map.now a.catalogue.now a.scratch.now a.text.now in
     let e = c.load-outcome.ensures in
-    let lines = c.write_sheets-last.ensures in
-    let begun = c.begin-first.ensures in
-    let reply = c.reply_of-loaded.ensures in
-    let count = c.count-count.ensures in (
-      rw (c.place_of.ensures, lines.0, lines.1, begun.0, begun.1, reply, count, e.0, e.1, e.2) p.0,
-      e.1 ∙ p.1,
-      e.2 ∙ p.2,
-      e.3 ∙ p.3,
-    )
+    card_ends a.shape a.role a.image.now a.map.now a.catalogue.now a.scratch.now a.text.now
+    c.reply_of-loaded.result _ _ _ (c.reply_of-loaded.ensures ∙ ap reply_of e.0) e.1 e.2 e.3
+    c.survey-counts.result c.describe_card.result c.describe_card.new.text c.if-loaded-ne0.false c.survey-counts.ensures
+    c.describe_card.ensures

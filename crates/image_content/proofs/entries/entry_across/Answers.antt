@@ -6,6 +6,4 @@ use Rattle.image_content.proofs.entries.entry_across.Goals as goal
 
 pub returns : goal.returns
 returns c =
-    let a = c.args in
-    entry_across a.image.now a.k _ _ _ c.number-mark.ensures c.number-start.ensures
-    c.number-blocks.ensures
+    entry_across c.args.image.now c.args.k _ _ _ c.number.ensures c.number-2.ensures c.number-3.ensures

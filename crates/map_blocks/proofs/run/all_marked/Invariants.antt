@@ -3,13 +3,9 @@
 
 use mathlib.Core.Path.{◌≡◌}
 use mathlib.Core.Bool.{true}
-use Prim.Native.Nat.{ℕ, ◌≤◌, ◌<◌, ◌-◌, ◌+◌, ◌%◌}
+use Prim.Native.Nat.{ℕ, ◌≤◌, ◌<◌, ◌+◌, ◌*◌}
 use Rattle.map_blocks.specs.Maps.{in_state}
 use Rattle.map_blocks.proofs.run.all_marked.Given as goal
 
-abbrev pub invariant-loop-base : goal.invariant-loop-base
-invariant-loop-base l = (l.base % 64 ≡ 0) × (l.start < l.base + 64)
-    × ((t : ℕ) → l.start ≤ t → t < l.base → t < l.start + l.k → in_state l.map l.state t ≡ true)
-
-abbrev pub decreases-loop-base : goal.decreases-loop-base
-decreases-loop-base l = l.end - l.base
+abbrev pub invariant-loop-i : goal.invariant-loop-i
+invariant-loop-i l = (t : ℕ) → l.start ≤ t → t < l.i * 64 → t < l.start + l.k → in_state l.map l.state t ≡ true

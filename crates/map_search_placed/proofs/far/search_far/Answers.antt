@@ -1,14 +1,14 @@
 -- `map_search_placed::far::search_far` meets its contract. The loop's invariant: c is a start, and none before it is a fit.
 -- Assumes nothing.
 
-use mathlib.Core.Path.{◌≡◌, ◌∙◌}
+use mathlib.Core.Path.{◌≡◌}
 use native.Mathlib.Omega.{arith}
 use mathlib.Core.Bool.{Bool, false}
 use Prim.Native.Nat.{ℕ, ◌+◌, ◌-◌, ◌*◌, ◌<◌, min}
 use Rattle.map_blocks.specs.Blocks.{free, on_step, fit}
 use Rattle.map_blocks.proofs.Fits.{mod_on}
 use Rattle.map_search_starts.proofs.Steps.{none_ahead}
-use Rattle.map_search_near.proofs.Figures.{is_nothing, is_start, found_at}
+use Rattle.map_search_near.proofs.Figures.{found_at}
 use Rattle.map_search_near.proofs.Figures.{found_none, before_first, past_runs, taken_run}
 use Rattle.map_search_placed.proofs.far.search_far.Goals.{After-some_starts-s}
 use Rattle.map_search_placed.proofs.far.search_far.Goals as goal
@@ -38,16 +38,16 @@ loop-c-init c = let a = c.args in (
 pub some_starts-s-requires : goal.some_starts-s-requires
 some_starts-s-requires c = let a = c.args in
     let loop = c.loop-c in
-    let e : c.smaller-stop.result ≡ min (a.before - a.k) (loop.c + 7 * a.step) = c.smaller-stop.ensures in
+    let e : c.min-stop.result ≡ min (a.before - a.k) (loop.c + 7 * a.step) = c.min-stop.ensures in
     (omega arith, omega arith, omega arith, omega arith, omega arith, omega arith, loop.invariant.2)
 
 pub returns-then-s-stop : goal.returns-then-s-stop
 returns-then-s-stop c = let a = c.args in
     let loop = c.loop-c in
     let found = c.some_starts-s in
-    let e : c.smaller-stop.result ≡ min (a.before - a.k) (loop.c + 7 * a.step) =
-    c.smaller-stop.ensures in
-    is_start a.before found.result (omega arith) ∙ found_at (free a.map.now) a.from a.before a.step
+    let e : c.min-stop.result ≡ min (a.before - a.k) (loop.c + 7 * a.step) =
+    c.min-stop.ensures in
+    found_at (free a.map.now) a.from a.before a.step
     a.k found.result (omega arith)
     (record {
       low = omega arith;
@@ -58,7 +58,7 @@ returns-then-s-stop c = let a = c.args in
 
 pub returns-then-last-s : goal.returns-then-last-s
 returns-then-last-s c = let a = c.args in
-    is_nothing a.before ∙ found_none (free a.map.now) a.from a.before a.step a.k
+    found_none (free a.map.now) a.from a.before a.step a.k
     c.some_starts-s.result (omega arith)
     (none-to (goal.at.returns-then-last-s c).After-some_starts-s)
 
@@ -68,8 +68,8 @@ past_taken-c-requires c = (omega arith, omega arith, omega arith, omega arith, o
 pub loop-c-smaller : goal.loop-c-smaller
 loop-c-smaller c = let a = c.args in
     let loop = c.loop-c in
-    let e : c.smaller-stop.result ≡ min (a.before - a.k) (loop.c + 7 * a.step) =
-    c.smaller-stop.ensures in
+    let e : c.min-stop.result ≡ min (a.before - a.k) (loop.c + 7 * a.step) =
+    c.min-stop.ensures in
     omega arith
 
 pub loop-c-preserved : goal.loop-c-preserved
@@ -89,5 +89,5 @@ loop-c-preserved c = let a = c.args in
 pub returns : goal.returns
 returns c = let a = c.args in
     let loop = c.loop-c in
-    is_nothing a.before ∙ found_none (free a.map.now) a.from a.before a.step a.k loop.c (omega arith)
+    found_none (free a.map.now) a.from a.before a.step a.k loop.c (omega arith)
     loop.invariant.3

@@ -1,0 +1,2 @@
+-- The law of a call that changes a mark.
+pub mod Changing

@@ -1,9 +1,0 @@
--- `call_pause::pause::pause` meets its contract.
--- Assumes nothing.
-
-use Rattle.refusals.proofs.Marks.{changes}
-use Rattle.refusals.specs.Table as table
-use Rattle.call_pause.proofs.pause.pause.Goals as goal
-
-pub returns : goal.returns
-returns c = changes _ table.pause c.enter_sheet.ensures c.admit-verdict.ensures c.with_mark.ensures

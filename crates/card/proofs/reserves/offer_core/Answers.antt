@@ -1,9 +1,0 @@
--- `card::reserves::offer_core` meets its contract: the answer of the crate refusals.
--- Assumes nothing.
-
-use mathlib.Core.Path.{ap}
-use Rattle.card.specs.Calls.{told}
-use Rattle.card.proofs.reserves.offer_core.Goals as goal
-
-pub returns : goal.returns
-returns c = ap (told c.args.shape) c.offer-answer.ensures

@@ -1,2 +1,0 @@
--- What the functions that a load consists of give and leave.
-pub mod Parts

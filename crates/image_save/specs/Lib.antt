@@ -1,2 +1,0 @@
--- What the functions that a save consists of give and leave.
-pub mod Parts

@@ -1,2 +1,0 @@
--- What the contracts of `rulings` cite.
-pub mod Rulings
