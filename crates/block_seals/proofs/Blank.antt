@@ -3,13 +3,14 @@
 use mathlib.Core.Path.{◌≡◌, refl, sym, ap, ◌∙◌}
 use mathlib.Core.Bool.{Bool, true, false, ◌&&◌, and-true, and_assoc}
 use mathlib.Core.List.{List, [], ◌∷◌, ◌++◌}
-use Prim.Native.Nat.{ℕ, zero, suc}
+use Prim.Native.Nat.{ℕ, zero, suc, ◌+◌, ◌<◌}
+use native.Mathlib.Numerals.{add-one}
 use native.Mathlib.Omega.{arith}
 use lib.Bits.{bit_or, or_add_and, and_le_r}
 use lib.Dec.{eqb}
-use lib.ListN.{length, replicate}
+use lib.ListN.{length, get_or, drop, replicate, drop_of_length-le}
+use lib.Seq.{drop-cons}
 use borrow.Author.Tests.{ne_eqb, eqb-true}
-use Rattle.std.specs.List.{fold}
 use Rattle.block_seals.specs.Sealed.{blank}
 
 -- an or of two numbers is 0 exactly if both are
@@ -22,15 +23,16 @@ or_both (suc t) x =
       ne_eqb (suc t) 0 (λ e. omega arith),
     )
 
--- a test that gathers the bytes
-gathered_on : (xs : List ℕ) (t : ℕ) → eqb (fold (λ a x. bit_or a x) t xs) 0 ≡ eqb t 0 && blank xs
-unfolding blank
-gathered_on [] t = sym (and-true (eqb t 0))
-gathered_on (x ∷ xs) t =
-    gathered_on xs (bit_or t x) ∙ ap (λ (r : Bool). r && blank xs) (or_both t x) ∙ and_assoc (eqb t 0) (eqb x 0) (blank xs)
+module _ (s : List ℕ) (i all : ℕ) where
+  -- a turn of the test
+  pub gather_more : i < length s → eqb (bit_or all (get_or s i 0)) 0 && blank (drop (i + 1) s) ≡ eqb all 0 && blank (drop i s)
+  unfolding blank
+  gather_more h = rw (or_both all (get_or s i 0), and_assoc, drop-cons s i 0 h, blank, add-one)
 
-pub gathered : (xs : List ℕ) → eqb (fold (λ a x. bit_or a x) 0 xs) 0 ≡ blank xs
-gathered xs = gathered_on xs 0
+  -- its end
+  pub gathered : length s ≡ i → eqb all 0 ≡ eqb all 0 && blank (drop i s)
+  unfolding blank
+  gathered h = rw (drop_of_length-le s {i = i} (omega arith), blank, and-true)
 
 -- two lists, one after the other
 pub blank_append : (xs ys : List ℕ) → blank (xs ++ ys) ≡ blank xs && blank ys

@@ -36,15 +36,20 @@ pub struct Slot {
 pub fn find(catalogue: &[Entry], sheet: u32) -> Slot
     ensures { result ≡ slot_at catalogue.now sheet }
 {
-    let none = Entry {
+    let at = sheet as usize;
+    let count = catalogue.len();
+    if at < count {
+        return Slot {
+            count,
+            entry: catalogue[at],
+        };
+    }
+    let entry = Entry {
         mark: 0,
         start: 0,
         length: 0,
     };
-    Slot {
-        count: catalogue.len(),
-        entry: catalogue.get(sheet as usize).copied().unwrap_or(none),
-    }
+    Slot { count, entry }
 }
 
 // Stores the entry of the sheet. Past the end nothing changes.

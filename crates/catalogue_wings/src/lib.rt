@@ -16,7 +16,11 @@ fn lengths(entries: &[Entry]) -> u64
     requires { length entries.now ≤ 128 }
     ensures { result ≡ sum_by (λ e. e.length) entries.now }
 {
-    entries.iter().map(|entry| u64::from(entry.length)).sum()
+    let mut sum = 0;
+    for i in 0..entries.len() {
+        sum += u64::from(entries[i].length);
+    }
+    sum
 }
 
 // How many blocks the sheet's wing holds: the lengths of 128 entries, of 32 bits each, do not come near to 2^64.

@@ -8,6 +8,7 @@ pub fn copy_from(to: &mut [u64], map: &[u64], a: usize)
     ensures { to.new ≡ words_from map.now a (length to.old) }
 {
     for (i, word) in to.iter_mut().enumerate() {
-        *word = map.get(a + i).copied().unwrap_or(0);
+        let at = a + i;
+        *word = if at < map.len() { map[at] } else { 0 };
     }
 }

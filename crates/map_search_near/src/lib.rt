@@ -126,7 +126,7 @@ fn near_groups(map: &[u64], c: u32, stop: usize, sought: Sought) -> Option<u32>
 fn word_at(map: &[u64], i: usize) -> u64
     ensures { result ≡ get_or map.now i 0 }
 {
-    map.get(i).copied().unwrap_or(0)
+    if i < map.len() { map[i] } else { 0 }
 }
 
 // The first run from c on that starts at a start in the word `last`, where none starts before.

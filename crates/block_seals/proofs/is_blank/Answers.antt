@@ -1,12 +1,12 @@
--- `is_blank` meets its contract: what is gathered is 0 exactly if the block is blank.
+-- `is_blank` meets its contract. The invariant: what is gathered is 0 and the rest is blank exactly if the whole is blank.
 -- Assumes nothing.
-use Rattle.std.proofs.Common.{◌≡◌, ℕ, ap, eqb, rules, ◌∙◌}
-use Rattle.std.specs.List.{fold}
-use lib.Bits.{bit_or}
-use Rattle.block_seals.proofs.Blank.{gathered}
+use mathlib.Core.Path.{◌∙◌}
+use native.Mathlib.Omega.{arith}
+use Rattle.block_seals.proofs.Blank.{gather_more, gathered}
 use Rattle.block_seals.proofs.is_blank.Goals as goal
 
+pub loop-i-preserved : goal.loop-i-preserved
+loop-i-preserved c = gather_more c.args.block.now c.loop-i.i c.loop-i.all (omega arith) ∙ c.loop-i.invariant
+
 pub returns : goal.returns
-returns c =
-    let e : c.fold.result ≡ fold (λ (a x : ℕ). bit_or a x) 0 c.args.block.now = search rules in
-    ap (λ (n : ℕ). eqb n 0) e ∙ gathered c.args.block.now
+returns c = gathered c.args.block.now c.loop-i.i c.loop-i.all (omega arith) ∙ c.loop-i.invariant
