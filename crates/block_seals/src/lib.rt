@@ -6,7 +6,7 @@
 ghost use Rattle.std.specs.Prelude.{◌≡◌, ◌+◌, ◌*◌, length};
 ghost use Rattle.block_seals.specs.Sealed.{sums, check_holds, blank, sound, front, sealed};
 
-use block_bytes::{get4, put4};
+use block_bytes::{copy, get4, put4};
 
 // Bytes of a block and of a payload.
 pub const BLOCK: usize = 512;
@@ -84,7 +84,7 @@ fn write_front(first: &mut [u8], sheet: u32, place: u32, payload: &[u8])
 {
     put4(&mut first[0..4], sheet);
     put4(&mut first[4..8], place);
-    first[8..504].copy_from_slice(payload);
+    copy(&mut first[8..504], payload);
 }
 
 // Writes the sealed block of a sheet, a place and a payload.

@@ -59,5 +59,5 @@ pub fn copy_payload(card: &[u8], b: u32, buffer: &mut [u8])
 {
     let start = BLOCK * (b as usize) + PAYLOAD_START;
     let end = start + PAYLOAD;
-    buffer.copy_from_slice(&card[start..end]);
+    block_bytes::copy(buffer, &card[start..end]);
 }

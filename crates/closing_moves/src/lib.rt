@@ -6,6 +6,7 @@ ghost use Rattle.std.specs.Prelude.{◌≡◌, ◌+◌, ◌*◌, ◌≤◌, leng
 ghost use Rattle.blocks_of_card.specs.Card.{block_of, with_block};
 ghost use Rattle.closing_moves.specs.Moved.{moved};
 
+use block_bytes::copy;
 use block_seals::BLOCK;
 
 // Block `to` gets the bytes of block `from`, by way of an array: std's `copy_within` goes byte by byte.
@@ -15,9 +16,9 @@ fn move_block(card: &mut [u8], to: usize, from: usize)
 {
     let mut bytes = [0u8; BLOCK];
     let start = BLOCK * from;
-    bytes.copy_from_slice(&card[start..start + BLOCK]);
+    copy(&mut bytes, &card[start..start + BLOCK]);
     let first = BLOCK * to;
-    card[first..first + BLOCK].copy_from_slice(&bytes);
+    copy(&mut card[first..first + BLOCK], &bytes);
 }
 
 // Moves the k blocks from `from` on down to those from `to` on.

@@ -6,4 +6,4 @@ use Rattle.blocks_of_card.proofs.Card.{lent_payload}
 use Rattle.blocks_of_card.proofs.copy_payload.Goals as goal
 
 pub returns : goal.returns
-returns c = c.copy_from_slice.ensures.after ∙ lent_payload c.args.card.now c.args.b
+returns c = c.copy.ensures ∙ lent_payload c.args.card.now c.args.b

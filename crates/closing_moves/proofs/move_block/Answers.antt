@@ -7,5 +7,4 @@ use Rattle.closing_moves.proofs.move_block.Goals as goal
 
 pub returns : goal.returns
 returns c = let a = c.args in
-    given_back a.card.now a.to _ _
-    (c.copy_from_slice-2.ensures.after ∙ c.copy_from_slice.ensures.after ∙ lent a.card.now a.from)
+    given_back a.card.now a.to _ _ (c.copy-2.ensures ∙ c.copy.ensures ∙ lent a.card.now a.from)
