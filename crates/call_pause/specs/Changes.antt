@@ -9,7 +9,7 @@ use Rattle.catalogue_standings.specs.declared.Refusal.{Refusal}
 use Rattle.catalogue_standings.specs.declared.Standing.{Standing}
 use Rattle.refusals.specs.Effects.{entry_of, out_of, refusal_out}
 use Rattle.refusals.specs.Marks.{is_admitted}
-use Rattle.refusals.specs.Table.{Admits}
+use Rattle.refusals.specs.declared.Admits.{Admits}
 use Rattle.refusals.specs.declared.Out.{Out}
 use Rattle.refusals.specs.Table as table
 use Rattle.roles.specs.Roles as names

@@ -21,7 +21,7 @@ fn blank_left(asked: Asked, map: &[u64], card: &[u8]) -> Result<Option<u32>, Ref
         (λ place. (complete_verdict q ≡ refused 9) × (place ≡ blank_place q)))
         (λ why. complete_verdict q ≡ refused (number why)) }
 {
-    let stands = asked.enter(Call::Complete, map, Some(card.len()))?;
+    let stands = asked.enter(Call::Complete as u32, map, Some(card.len()))?;
     let Standing::Open(start, blocks) = stands else {
         return Err(row_of(stands));
     };
@@ -33,7 +33,7 @@ pub fn complete(asked: Asked, map: &[u64], card: &[u8]) -> Out
         result ≡ complete_out q }
 {
     match blank_left(asked, map, card) {
-        Err(why) => refusal(asked.free, asked.entry, why),
+        Err(why) => refusal(asked.free, asked.entry, why.number()),
         Ok(Some(place)) => Out {
             free: asked.free,
             entry: asked.entry,

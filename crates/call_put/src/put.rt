@@ -24,7 +24,7 @@ fn block_for(
         × IfOk result (λ b. (b ≡ asked.entry.start + place) × (512 * b + 512 ≤ length card.now)
         × (length payload.now ≡ 496)) }
 {
-    let stands = asked.enter(Call::Put, map, Some(card.len()))?;
+    let stands = asked.enter(Call::Put as u32, map, Some(card.len()))?;
     let Standing::Open(start, blocks) = stands else {
         return Err(row_of(stands));
     };

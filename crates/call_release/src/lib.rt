@@ -18,7 +18,14 @@ fn allowed(asked: Asked, map: &[u64], guided: bool, summary: &[u32]) -> Result<(
     ensures { let q = lent_for asked names.release guided summary.now map.now no_card in
         Follows (release_verdict q) result }
 {
-    let stands = begin(asked, Call::Release, map, guided, summary.len(), None)?;
+    let stands = begin(
+        asked,
+        Call::Release as u32,
+        map,
+        guided,
+        summary.len(),
+        None,
+    )?;
     if let Standing::Absent = stands {
         return Err(Refusal::IsAbsent);
     }
@@ -35,7 +42,7 @@ pub fn release(asked: Asked, map: &mut [u64], guided: bool, summary: &mut [u32])
         (result ≡ release_out q) × (map.new ≡ release_map q) × (summary.new ≡ release_summary q) }
 {
     if let Err(why) = allowed(asked, map, guided, summary) {
-        return refusal(asked.free, asked.entry, why);
+        return refusal(asked.free, asked.entry, why.number());
     }
     let start = asked.entry.start;
     let blocks = asked.entry.length;

@@ -27,7 +27,7 @@ pub fn accept(
         × (card.new ≡ accept_card q start k) }
 {
     match accept_ruling(asked, map, guided, summary, card, held, limits, start, k) {
-        Err(why) => refusal(asked.free, asked.entry, why),
+        Err(why) => refusal(asked.free, asked.entry, why.number()),
         Ok(at) => take(asked.n, asked.free, map, guided, summary, card, at, k),
     }
 }

@@ -28,7 +28,7 @@ pub fn grow(
         × (card.new ≡ grow_card q m) }
 {
     match grow_ruling(asked, map, guided, summary, card, held, limits, m) {
-        Err(why) => refusal(asked.free, asked.entry, why),
+        Err(why) => refusal(asked.free, asked.entry, why.number()),
         Ok(end) => {
             occupy(asked.n, map, guided, summary, card, end, m);
             Out {

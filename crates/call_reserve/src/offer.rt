@@ -21,7 +21,7 @@ pub fn offer(asked: Asked, map: &[u64], card: &[u8], held: u64, limits: &[u32; 8
     };
     match reserve_ruling(
         asked,
-        Call::Offer,
+        Call::Offer as u32,
         map,
         false,
         &[],

@@ -30,7 +30,7 @@ pub fn reserve(
 {
     match reserve_ruling(
         asked,
-        Call::Reserve,
+        Call::Reserve as u32,
         map,
         guided,
         summary,
@@ -40,7 +40,7 @@ pub fn reserve(
         k,
         figures,
     ) {
-        Err(why) => refusal(asked.free, asked.entry, why),
+        Err(why) => refusal(asked.free, asked.entry, why.number()),
         Ok(start) => take(asked.n, asked.free, map, guided, summary, card, start, k),
     }
 }

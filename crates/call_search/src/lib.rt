@@ -18,7 +18,7 @@ use roles::Call;
 fn least_fit(role: u32, n: u32, free: u32, map: &[u64], k: u32) -> Result<Answer, Refusal>
     ensures { answer_in result ≡ search_answer (turned_away role names.search) n free map.now k }
 {
-    permit(role, Call::Search)?;
+    permit(role, Call::Search as u32)?;
     if !shape_fits(n, free, map.len()) {
         return Err(Refusal::Misfit);
     }
@@ -43,7 +43,7 @@ pub fn search(role: u32, n: u32, free: u32, map: &[u64], k: u32) -> Answer
 fn counted(role: u32, n: u32, free: u32, map: &[u64]) -> Result<Answer, Refusal>
     ensures { answer_in result ≡ survey_answer (turned_away role names.survey) n free map.now }
 {
-    permit(role, Call::Survey)?;
+    permit(role, Call::Survey as u32)?;
     if !shape_fits(n, free, map.len()) {
         return Err(Refusal::Misfit);
     }
@@ -65,7 +65,7 @@ pub fn fresh(role: u32, n: u32, map: &mut [u64], c: usize) -> Result<(), Refusal
     ensures { let turned = turned_away role names.fresh in
         Follows (fresh_verdict turned n (length map.old) c) result × (map.new ≡ fresh_map turned n map.old c) }
 {
-    permit(role, Call::Fresh)?;
+    permit(role, Call::Fresh as u32)?;
     if !shape_fits(n, n, map.len()) {
         return Err(Refusal::Misfit);
     }

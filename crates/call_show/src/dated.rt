@@ -60,7 +60,7 @@ fn copied(
         Follows (show_dated_verdict q place date buffer.old) result
         × (buffer.new ≡ show_dated_buffer q place date buffer.old) }
 {
-    showing(asked, Call::ShowDated, map, card, place, buffer)?;
+    showing(asked, Call::ShowDated as u32, map, card, place, buffer)?;
     let start = asked.entry.start;
     on_term(card, start, asked.sheet, year, month, day)?;
     show_block(card, start + place, asked.sheet, place, buffer)

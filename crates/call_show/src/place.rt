@@ -3,7 +3,6 @@ ghost use Rattle.std.specs.Prelude.{◌≡◌, false, [], ◌+◌, ◌*◌, ◌�
 ghost use Rattle.block_seals.specs.Sealed.{sound};
 ghost use Rattle.blocks_of_card.specs.Card.{block_of};
 ghost use Rattle.catalogue_standings.specs.Refusals.{Follows};
-ghost use Rattle.roles.specs.Names.{call_number};
 ghost use Rattle.refusals.specs.Lent.{lent_for};
 ghost use Rattle.refusals.specs.Effects.{showing_verdict, block_verdict, shown_buffer};
 
@@ -11,18 +10,17 @@ use block::PAYLOAD;
 use blocks_of_card::{copy_payload, sound_block};
 use catalogue_standings::opening::{Asked, row_of};
 use catalogue_standings::{Refusal, Standing};
-use roles::Call;
 
 // The rows that a show begins with: 21, 1, 2, 4 for the entry, 5 to 7 and 3.
 pub fn showing(
     asked: Asked,
-    call: Call,
+    call: u32,
     map: &[u64],
     card: &[u8],
     place: u32,
     buffer: &[u8],
 ) -> Result<(), Refusal>
-    ensures { let q = lent_for asked (call_number call) false [] map.now card.now in
+    ensures { let q = lent_for asked call false [] map.now card.now in
         Follows (showing_verdict q place buffer.now) result }
 {
     let stands = asked.enter(call, map, Some(card.len()))?;

@@ -20,7 +20,7 @@ fn copied(
     ensures { let q = lent_for asked names.show false [] map.now card.now in
         Follows (show_verdict q place buffer.old) result × (buffer.new ≡ show_buffer q place buffer.old) }
 {
-    showing(asked, Call::Show, map, card, place, buffer)?;
+    showing(asked, Call::Show as u32, map, card, place, buffer)?;
     show_block(card, asked.entry.start + place, asked.sheet, place, buffer)
 }
 

@@ -12,7 +12,7 @@ pub fn standing(asked: Asked, map: &[u64]) -> Answer
     ensures { let q = lent_for asked names.standing false [] map.now no_card in
         result ≡ standing_answer q }
 {
-    match asked.enter(Call::Standing, map, None) {
+    match asked.enter(Call::Standing as u32, map, None) {
         Err(why) => why.answer(),
         Ok(_) => Answer::Reads(asked.entry.mark, asked.entry.start, asked.entry.length),
     }

@@ -6,7 +6,6 @@ ghost use Rattle.catalogue_standings.specs.Standings.{extent_holds, standing_of}
 ghost use Rattle.catalogue_standings.specs.Limits.{shape_fits, sheets_fit, card_fits, lent_fits};
 ghost use Rattle.catalogue_standings.specs.Openings;
 ghost use Rattle.catalogue_standings.specs.Openings.{opened_of, opened_for, refusal_of};
-ghost use Rattle.roles.specs.Names.{call_number};
 ghost use Rattle.roles.specs.Roles.{turned_away};
 
 use crate::{Refusal, Standing};
@@ -14,7 +13,7 @@ use block_seals::BLOCK;
 use catalogue::{ABSENT, COMPLETE, Entry, OPEN, PAUSED};
 pub use map_blocks::BLOCKS;
 use map_blocks::run::{TAKEN, all_marked};
-use roles::Call;
+use roles::turned_away;
 
 // The most sheets of a card.
 pub const SHEETS: usize = 1024;
@@ -193,10 +192,10 @@ impl Asked {
         unless_damaged(decode(self.n, map, self.entry))
     }
 
-    // The same rows behind 21, for the call's name (document 02 (n)), inline as they are.
+    // The same rows behind 21, for the call's number (document 02 (n)), inline as they are.
     #[inline(always)]
-    pub fn enter(self, call: Call, map: &[u64], cardlen: Option<usize>) -> Result<Standing, Refusal>
-        ensures { result ≡ opened_for (turned_away self.role (call_number call))
+    pub fn enter(self, call: u32, map: &[u64], cardlen: Option<usize>) -> Result<Standing, Refusal>
+        ensures { result ≡ opened_for (turned_away self.role call)
             (lent_fits self.n self.free (length map.now) self.sheets cardlen) self.sheets self.sheet
             (standing_of self.n (Blocks.free map.now) self.entry) }
     {
@@ -205,12 +204,12 @@ impl Asked {
     }
 }
 
-// Row 21, of one who may not make the call.
-pub fn permit(role: u32, call: Call) -> Result<(), Refusal>
-    ensures { MatchResult result (λ u. turned_away role (call_number call) ≡ false)
-        (λ why. (turned_away role (call_number call) ≡ true) × (why ≡ Refusal.TurnedAway)) }
+// Row 21, of one who may not make the call, whose number may be any.
+pub fn permit(role: u32, call: u32) -> Result<(), Refusal>
+    ensures { MatchResult result (λ u. turned_away role call ≡ false)
+        (λ why. (turned_away role call ≡ true) × (why ≡ Refusal.TurnedAway)) }
 {
-    if call.turned_away(role) {
+    if turned_away(role, call) {
         return Err(Refusal::TurnedAway);
     }
     Ok(())

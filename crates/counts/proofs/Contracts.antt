@@ -10,12 +10,13 @@ use types.Logic.{Logic}
 use prog.Memory.{Memory}
 use prog.Routine.{Routine}
 use Rattle.block.proofs.Clauses.{Ensures, AsksNothing}
-use Rattle.counts.specs.Counts.{number_in, read_of, write_answer, after_write}
+use Rattle.counts.specs.Counts.{number, number_in, read_of, write_answer, after_write}
 use Rattle.counts.specs.Replies.{count_reply, count_from}
 use Rattle.counts.specs.contracts.read_count as read-count-function
 use Rattle.counts.specs.contracts.write_count as write-count-function
 use Rattle.counts.specs.contracts.reply_of as reply-of-function
 use Rattle.counts.specs.contracts.count_from as count-from-function
+use Rattle.counts.specs.contracts.CountError.number as number-method
 
 -- what is passed is a.0, a.1.0 and so on, in the order of the parameters, and what is left of it t.0, t.1.0 and so on
 module _ {M : Type 1} {𝓤 : Ura M} (𝓛 : Logic 𝓤) (mem : Memory → SProp 𝓤) (run : Routine → Fun 𝓤) where
@@ -35,6 +36,9 @@ module _ {M : Type 1} {𝓤 : Ura M} (𝓛 : Logic 𝓤) (mem : Memory → SProp
       r ≡ count_from a.0)
   count_from_contract κs a r t g = refl
 
+  pub number_contract : Ensures 𝓤 number-method.ended (number-method.clauses 𝓛 mem run) (λ κs a r t. r ≡ number a.0)
+  number_contract κs a r t g = refl
+
   pub read_count_asks_nothing : AsksNothing 𝓤 read-count-function.ended (read-count-function.clauses 𝓛 mem run)
   read_count_asks_nothing κs a g = refl
 
@@ -46,3 +50,6 @@ module _ {M : Type 1} {𝓤 : Ura M} (𝓛 : Logic 𝓤) (mem : Memory → SProp
 
   pub count_from_asks_nothing : AsksNothing 𝓤 count-from-function.ended (count-from-function.clauses 𝓛 mem run)
   count_from_asks_nothing κs a g = refl
+
+  pub number_asks_nothing : AsksNothing 𝓤 number-method.ended (number-method.clauses 𝓛 mem run)
+  number_asks_nothing κs a g = refl

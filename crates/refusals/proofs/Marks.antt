@@ -18,8 +18,9 @@ use Rattle.refusals.proofs.Lent.{first_at}
 use Rattle.refusals.specs.Effects.{entry_of, out_of, refusal_out, change_verdict, change_out}
 use Rattle.refusals.specs.Lent.{Lent}
 use Rattle.refusals.specs.Marks.{is_admitted}
-use Rattle.refusals.specs.Table.{View, Admits, Change, admits_of, mark_after, refusing, rows_for, table_of}
+use Rattle.refusals.specs.Table.{View, Change, admits_of, mark_after, refusing, rows_for, table_of}
 use Rattle.refusals.specs.Views.{view_at}
+use Rattle.refusals.specs.declared.Admits.{Admits}
 
 -- the rows refuse what is not admitted, each standing with its own row
 pub refuses : (a : Admits) (v : View) (s : Standing) → v.stands ≡ s → is_damaged s ≡ false

@@ -4,7 +4,7 @@
 use Rattle.std.specs.Prelude.{Bool, false}
 use Rattle.catalogue_standings.specs.declared.Standing.{Standing}
 use Rattle.catalogue_standings.specs.declared.Standing.TheVariants.{Absent, Paused, PausedWith, Open, Complete, Damaged}
-use Rattle.refusals.specs.Table.{Admits}
+use Rattle.refusals.specs.declared.Admits.{Admits}
 
 abbrev pub is_admitted : Admits → Standing → Bool
 is_admitted a Absent = a.absent

@@ -11,6 +11,7 @@ use Rattle.calendar.specs.Term.{Term, in_term}
 use Rattle.map_blocks.specs.Blocks.{all, fit, least, least_fit}
 use Rattle.refusals.specs.Placement.{Placement, plain, figures_in, misfigured}
 use Rattle.refusals.specs.Shares.{over_limit}
+use Rattle.refusals.specs.declared.Admits.{Admits}
 use Rattle.refusals.specs.declared.Figures.{Figures}
 use Rattle.catalogue.specs.Entries.{paused_mark, complete_mark}
 use Rattle.catalogue_standings.specs.Searches.{none, start_at}
@@ -22,14 +23,6 @@ use Rattle.catalogue_standings.specs.declared.Standing.{Standing}
 -- The calls that change the mark of an entry and nothing else of a card.
 pub data Change : Type 0 where
   pause resume : Change
-
--- The standings that a call admits, by the names of `Standing`. A damaged one is admitted by none.
-pub record Admits : Type 0 where
-  pub absent : Bool
-  pub paused : Bool
-  pub pausedwith : Bool
-  pub «open» : Bool
-  pub complete : Bool
 
 -- Which standings each admits (document 01; document 02 (g)), and the mark that it leaves.
 abbrev pub admits_of : Change → Admits

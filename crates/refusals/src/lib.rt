@@ -5,11 +5,9 @@
 
 ghost use Rattle.std.specs.Prelude.{◌≡◌, true, ◌&&◌, ◌+◌, ◌*◌, ◌≤◌, length};
 ghost use Rattle.map_blocks.specs.Blocks;
-ghost use Rattle.roles.specs.Names.{call_number};
 ghost use Rattle.roles.specs.Roles.{turned_away};
 ghost use Rattle.catalogue_standings.specs.Limits.{lent_fits};
 ghost use Rattle.catalogue_standings.specs.Openings.{opened_for};
-ghost use Rattle.catalogue_standings.specs.Refusals.{number};
 ghost use Rattle.catalogue_standings.specs.Standings.{standing_of};
 ghost use Rattle.refusals.specs.Effects.{refusal_out};
 ghost use Rattle.refusals.specs.Guides.{guide_fits, guide_tested, guide_after};
@@ -17,7 +15,6 @@ ghost use Rattle.refusals.specs.Guides.{guide_fits, guide_tested, guide_after};
 use catalogue::Entry;
 use catalogue_standings::opening::{Asked, permit};
 use catalogue_standings::{Answer, Refusal, Standing};
-use roles::Call;
 use summary::summary_len;
 use summary_write::update;
 
@@ -30,6 +27,16 @@ pub struct Figures {
     pub step: u32,
 }
 
+// The standings that a call admits, by the names of `Standing`. A damaged one is admitted by none.
+#[derive(Clone, Copy)]
+pub struct Admits {
+    pub absent: bool,
+    pub paused: bool,
+    pub pausedwith: bool,
+    pub open: bool,
+    pub complete: bool,
+}
+
 // What a call that may change a sheet hands back: the free count, the sheet's entry and the answer.
 #[derive(Clone, Copy)]
 pub struct Out {
@@ -38,14 +45,14 @@ pub struct Out {
     pub answer: Answer,
 }
 
-// A refusal hands the free count and the entry back as they came.
-pub fn refusal(free: u32, entry: Entry, why: Refusal) -> Out
-    ensures { result ≡ refusal_out free entry (number why) }
+// A refusal, by its row, hands the free count and the entry back as they came.
+pub fn refusal(free: u32, entry: Entry, row: u32) -> Out
+    ensures { result ≡ refusal_out free entry row }
 {
     Out {
         free: free,
         entry: entry,
-        answer: why.answer(),
+        answer: Answer::Refused(row),
     }
 }
 
@@ -65,18 +72,19 @@ pub fn guide_fits(guided: bool, maplen: usize, summarylen: usize) -> bool
     summarylen == summary_len(maplen)
 }
 
-// Rows 21, 1, 2 and 4 for the entry, which a call on a sheet begins with: by its name, and the lengths of what it is lent, the
-// summary that guides it, if one does, and the card, if it is lent one. It is inline as the rows behind 21 are.
+// Rows 21, 1, 2 and 4 for the entry, which a call on a sheet begins with: by its number, which may be any, and the lengths of
+// what it is lent, the summary that guides it, if one does, and the card, if it is lent one. It is inline as the rows behind 21
+// are.
 #[inline(always)]
 pub fn begin(
     asked: Asked,
-    call: Call,
+    call: u32,
     map: &[u64],
     guided: bool,
     summarylen: usize,
     cardlen: Option<usize>,
 ) -> Result<Standing, Refusal>
-    ensures { result ≡ opened_for (turned_away asked.role (call_number call))
+    ensures { result ≡ opened_for (turned_away asked.role call)
         (guide_tested guided (length map.now) summarylen
         && lent_fits asked.n asked.free (length map.now) asked.sheets cardlen) asked.sheets asked.sheet
         (standing_of asked.n (Blocks.free map.now) asked.entry) }

@@ -4,7 +4,6 @@
 ghost use Rattle.std.specs.Prelude.{◌≡◌, ◌+◌, ◌*◌, ◌≤◌, length, IfOk};
 ghost use Rattle.map_blocks.specs.Blocks;
 ghost use Rattle.refusals.specs.Lent.{lent_for, within};
-ghost use Rattle.roles.specs.Names.{call_number};
 ghost use Rattle.roles.specs.Roles as names;
 ghost use Rattle.refusals.specs.Placement.{placed};
 ghost use Rattle.catalogue_standings.specs.Refusals.{number, Follows};
@@ -20,14 +19,14 @@ use roles::Call;
 // The rows that a call which gives k blocks to an Absent sheet begins with: 21, 1, 2, 4 for the entry, 6 to 8 and 3.
 fn give(
     asked: Asked,
-    call: Call,
+    call: u32,
     map: &[u64],
     guided: bool,
     summary: &[u32],
     card: &[u8],
     k: u32,
 ) -> Result<(), Refusal>
-    ensures { let q = lent_for asked (call_number call) guided summary.now map.now card.now in
+    ensures { let q = lent_for asked call guided summary.now map.now card.now in
         Follows (giving_verdict q k) result }
 {
     let stands = begin(asked, call, map, guided, summary.len(), Some(card.len()))?;
@@ -44,14 +43,14 @@ fn give(
 // since the two differ in the standing that they admit and in the verdict that each ensures.
 fn add(
     asked: Asked,
-    call: Call,
+    call: u32,
     map: &[u64],
     guided: bool,
     summary: &[u32],
     card: &[u8],
     m: u32,
 ) -> Result<(), Refusal>
-    ensures { let q = lent_for asked (call_number call) guided summary.now map.now card.now in
+    ensures { let q = lent_for asked call guided summary.now map.now card.now in
         Follows (adding_verdict q m) result }
 {
     let stands = begin(asked, call, map, guided, summary.len(), Some(card.len()))?;
@@ -67,7 +66,7 @@ fn add(
 // The rows of a reserve before its search: those that giving begins with, 15 and 18.
 fn before_search(
     asked: Asked,
-    call: Call,
+    call: u32,
     map: &[u64],
     guided: bool,
     summary: &[u32],
@@ -77,7 +76,7 @@ fn before_search(
     k: u32,
     figures: Figures,
 ) -> Result<(), Refusal>
-    ensures { let q = within held limits.now (lent_for asked (call_number call) guided summary.now map.now card.now) in
+    ensures { let q = within held limits.now (lent_for asked call guided summary.now map.now card.now) in
         Follows (unsearched_verdict q k (placed figures)) result }
 {
     give(asked, call, map, guided, summary, card, k)?;
@@ -93,7 +92,7 @@ fn before_search(
 // The least fit within the figures, or the refusal.
 pub fn reserve_ruling(
     asked: Asked,
-    call: Call,
+    call: u32,
     map: &[u64],
     guided: bool,
     summary: &[u32],
@@ -103,7 +102,7 @@ pub fn reserve_ruling(
     k: u32,
     figures: Figures,
 ) -> Result<u32, Refusal>
-    ensures { let q = within held limits.now (lent_for asked (call_number call) guided summary.now map.now card.now) in
+    ensures { let q = within held limits.now (lent_for asked call guided summary.now map.now card.now) in
         Follows (reserve_verdict q k (placed figures)) result
         × IfOk result (λ start. start ≡ reserve_start q k (placed figures)) }
 {
@@ -161,7 +160,7 @@ pub fn accept_ruling(
     ensures { let q = within held limits.now (lent_for asked names.accept guided summary.now map.now card.now) in
         Follows (accept_verdict q start k) result × IfOk result (λ s. s ≡ start) }
 {
-    give(asked, Call::Accept, map, guided, summary, card, k)?;
+    give(asked, Call::Accept as u32, map, guided, summary, card, k)?;
     let over = over_limit(limits, held, asked.sheet, k);
     run_ruling(asked.n, asked.free, map, start, k, over, Refusal::RunTaken)
 }
@@ -180,7 +179,7 @@ pub fn grow_ruling(
     ensures { let q = within held limits.now (lent_for asked names.grow guided summary.now map.now card.now) in
         Follows (grow_verdict q m) result × IfOk result (λ end. end ≡ asked.entry.start + asked.entry.length) }
 {
-    add(asked, Call::Grow, map, guided, summary, card, m)?;
+    add(asked, Call::Grow as u32, map, guided, summary, card, m)?;
     let over = over_limit(limits, held, asked.sheet, m);
     let end = asked.entry.start + asked.entry.length;
     run_ruling(

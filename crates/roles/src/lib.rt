@@ -43,26 +43,26 @@ impl TryFrom<u32> for Role {
 // without it.
 #[derive(Clone, Copy, PartialEq, Eq)]
 pub enum Call {
-    Fresh,
-    Search,
-    Survey,
-    Reserve,
-    Offer,
-    Accept,
-    Grow,
-    Put,
-    Complete,
-    Pause,
-    Resume,
-    Release,
-    Show,
-    ShowDated,
-    Standing,
-    Save,
-    Load,
-    Close,
-    BuildSummary,
-    CheckSummary,
+    Fresh = 1,
+    Search = 2,
+    Survey = 3,
+    Reserve = 4,
+    Offer = 5,
+    Accept = 6,
+    Grow = 7,
+    Put = 8,
+    Complete = 9,
+    Pause = 10,
+    Resume = 11,
+    Release = 12,
+    Show = 13,
+    ShowDated = 14,
+    Standing = 15,
+    Save = 16,
+    Load = 17,
+    Close = 18,
+    BuildSummary = 19,
+    CheckSummary = 20,
 }
 
 impl Role {
@@ -140,14 +140,17 @@ pub fn turned_away(role: u32, call: u32) -> bool
 }
 
 impl Call {
+    // Its number, by which the table of roles has it.
+    pub fn number(self) -> u32
+        ensures { result ≡ call_number self }
+    {
+        self as u32
+    }
+
     // Whether the call is turned away by role, which may be any number.
-    #[tactic(auto, unfolding(crate::specs::Roles::may))]
     pub fn turned_away(self, role: u32) -> bool
         ensures { result ≡ table.turned_away role (call_number self) }
     {
-        match Role::try_from(role) {
-            Ok(role) => !role.may(self),
-            Err(_) => true,
-        }
+        turned_away(role, self.number())
     }
 }

@@ -10,6 +10,7 @@ use lib.ListN.{length}
 use Rattle.map_blocks.proofs.Maps.{marked_length}
 use Rattle.catalogue_standings.specs.Rows.{accepted}
 use Rattle.roles.specs.Roles as names
+use Rattle.refusals.specs.Effects.{refusal_out}
 use Rattle.refusals.specs.Guides.{guide_fits, guide_after}
 use Rattle.refusals.specs.Lent.{lent_for, no_card}
 use Rattle.refusals.proofs.Release.{out, released}
@@ -19,7 +20,7 @@ pub returns-in-Err : goal.returns-in-Err
 returns-in-Err c =
     let a = c.args in
     let q = lent_for a.asked names.release a.guided a.summary.now a.map.now no_card in
-    out q _ c.in-Err.ensures _ _ _ c.refusal.ensures refl refl
+    out q _ c.in-Err.ensures _ _ _ (c.refusal.ensures ∙ ap (refusal_out a.asked.free a.asked.entry) c.number.ensures) refl refl
 
 pub mark-requires : goal.mark-requires
 mark-requires c =

@@ -7,7 +7,6 @@ use Rattle.std.proofs.lemmas.Result.{err_from_is_err_and}
 use Rattle.catalogue_standings.specs.Refusals.{number}
 use Rattle.catalogue_standings.specs.Rows.{refused}
 use Rattle.catalogue_standings.specs.declared.Refusal.{Refusal}
-use Rattle.roles.specs.Names.{call_number}
 use Rattle.refusals.specs.Lent.{lent_for}
 use Rattle.refusals.proofs.Beginnings.{adding_shut, adding_other, adding_nothing, adding_passes}
 use Rattle.refusals.proofs.Guides.{first_is}
@@ -16,25 +15,25 @@ use Rattle.refusals_rulings.proofs.add.Goals as goal
 pub returns-in_err-stands : goal.returns-in_err-stands
 returns-in_err-stands c =
     let a = c.args in
-    let q = lent_for a.asked (call_number a.call) a.guided a.summary.now a.map.now a.card.now in
+    let q = lent_for a.asked a.call a.guided a.summary.now a.map.now a.card.now in
     let p = err_from_is_err_and c.from_residual.result c.from_residual.ensures.1 in
     rw (p.1, p.2) (adding_shut q a.m _ (first_is q c.begin.ensures c.in_err-stands.was))
 
 pub returns-in_default : goal.returns-in_default
 returns-in_default c =
     let a = c.args in
-    let q = lent_for a.asked (call_number a.call) a.guided a.summary.now a.map.now a.card.now in
+    let q = lent_for a.asked a.call a.guided a.summary.now a.map.now a.card.now in
     adding_other q a.m _ (first_is q c.begin.ensures c.in_ok-stands.was) c.in_default.not-Open
     ∙ ap (λ (why : Refusal). refused (number why)) (sym c.row_of.ensures)
 
 pub returns-then-m-eq0 : goal.returns-then-m-eq0
 returns-then-m-eq0 c =
     let a = c.args in
-    let q = lent_for a.asked (call_number a.call) a.guided a.summary.now a.map.now a.card.now in
+    let q = lent_for a.asked a.call a.guided a.summary.now a.map.now a.card.now in
     adding_nothing q a.m _ _ (first_is q c.begin.ensures (c.in_ok-stands.was ∙ ap Ok c.in-Open.is)) c.if-m-eq0.true
 
 pub returns : goal.returns
 returns c =
     let a = c.args in
-    let q = lent_for a.asked (call_number a.call) a.guided a.summary.now a.map.now a.card.now in
+    let q = lent_for a.asked a.call a.guided a.summary.now a.map.now a.card.now in
     adding_passes q a.m _ _ (first_is q c.begin.ensures (c.in_ok-stands.was ∙ ap Ok c.in-Open.is)) c.if-m-eq0.false

@@ -7,7 +7,6 @@ use Prim.Native.Nat.{ℕ}
 use Rattle.std.proofs.lemmas.Result.{err_from_is_err_and}
 use Rattle.catalogue_standings.specs.Rows.{Verdict, accepted, refused, first_of}
 use Rattle.catalogue_standings.proofs.Openings.{skip, stop, none_left}
-use Rattle.roles.specs.Names.{call_number}
 use Rattle.refusals.specs.Effects.{giving_verdict, unsearched_verdict}
 use Rattle.refusals.specs.Lent.{Lent, lent_for, within}
 use Rattle.refusals.specs.Placement.{Placement, placed}
@@ -33,27 +32,27 @@ module _ (held : ℕ) (limits : List ℕ) (q₀ : Lent) (k : ℕ) (p : Placement
 pub returns-in_err-give : goal.returns-in_err-give
 returns-in_err-give c =
     let a = c.args in
-    let q₀ = lent_for a.asked (call_number a.call) a.guided a.summary.now a.map.now a.card.now in
+    let q₀ = lent_for a.asked a.call a.guided a.summary.now a.map.now a.card.now in
     let p = err_from_is_err_and c.from_residual.result c.from_residual.ensures.1 in
     rw (p.1, p.2) (by_giving a.held a.limits.now q₀ a.k (placed a.figures) _ c.in_err-give.ensures)
 
 pub returns-then-figures_wrong : goal.returns-then-figures_wrong
 returns-then-figures_wrong c =
     let a = c.args in
-    let q₀ = lent_for a.asked (call_number a.call) a.guided a.summary.now a.map.now a.card.now in
+    let q₀ = lent_for a.asked a.call a.guided a.summary.now a.map.now a.card.now in
     by_own a.held a.limits.now q₀ a.k (placed a.figures) c.in_ok-give.ensures (refused 15)
     (stop 15 _ _ (sym c.figures_wrong.ensures ∙ c.if-figures_wrong.true))
 
 pub over_limit-requires : goal.over_limit-requires
 over_limit-requires c =
     let a = c.args in
-    let q₀ = lent_for a.asked (call_number a.call) a.guided a.summary.now a.map.now a.card.now in
+    let q₀ = lent_for a.asked a.call a.guided a.summary.now a.map.now a.card.now in
     (given q₀ a.k c.in_ok-give.ensures).below
 
 pub returns-then-over_limit : goal.returns-then-over_limit
 returns-then-over_limit c =
     let a = c.args in
-    let q₀ = lent_for a.asked (call_number a.call) a.guided a.summary.now a.map.now a.card.now in
+    let q₀ = lent_for a.asked a.call a.guided a.summary.now a.map.now a.card.now in
     let right = sym c.figures_wrong.ensures ∙ c.if-figures_wrong.false in
     by_own a.held a.limits.now q₀ a.k (placed a.figures) c.in_ok-give.ensures (refused 18)
     (skip 15 _ _ _ right (stop 18 _ _ (sym c.over_limit.ensures ∙ c.if-over_limit.true)))
@@ -61,7 +60,7 @@ returns-then-over_limit c =
 pub returns : goal.returns
 returns c =
     let a = c.args in
-    let q₀ = lent_for a.asked (call_number a.call) a.guided a.summary.now a.map.now a.card.now in
+    let q₀ = lent_for a.asked a.call a.guided a.summary.now a.map.now a.card.now in
     let right = sym c.figures_wrong.ensures ∙ c.if-figures_wrong.false in
     by_own a.held a.limits.now q₀ a.k (placed a.figures) c.in_ok-give.ensures accepted
     (skip 15 _ _ _ right (skip 18 _ _ _ (sym c.over_limit.ensures ∙ c.if-over_limit.false) none_left))

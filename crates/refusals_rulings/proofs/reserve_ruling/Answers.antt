@@ -5,7 +5,6 @@ use mathlib.Core.Path.{sym, ◌∙◌}
 use native.Mathlib.Omega.{arith}
 use Rattle.std.proofs.lemmas.Result.{err_from_is_err_and}
 use Rattle.catalogue_standings.specs.Rows.{accepted, refused}
-use Rattle.roles.specs.Names.{call_number}
 use Rattle.refusals.specs.Lent.{lent_for, within}
 use Rattle.refusals.specs.Placement.{placed}
 use Rattle.refusals.proofs.Beginnings.{given}
@@ -16,14 +15,14 @@ use Rattle.refusals_rulings.proofs.reserve_ruling.Goals as goal
 pub returns-in_err-before_search : goal.returns-in_err-before_search
 returns-in_err-before_search c =
     let a = c.args in
-    let q = within a.held a.limits.now (lent_for a.asked (call_number a.call) a.guided a.summary.now a.map.now a.card.now) in
+    let q = within a.held a.limits.now (lent_for a.asked a.call a.guided a.summary.now a.map.now a.card.now) in
     let p = err_from_is_err_and c.from_residual.result c.from_residual.ensures.1 in
     rw (p.1, p.2) (refused_before q a.k (placed a.figures) _ c.in_err-before_search.ensures, tt)
 
 pub find_run-requires : goal.find_run-requires
 find_run-requires c =
     let a = c.args in
-    let q = within a.held a.limits.now (lent_for a.asked (call_number a.call) a.guided a.summary.now a.map.now a.card.now) in
+    let q = within a.held a.limits.now (lent_for a.asked a.call a.guided a.summary.now a.map.now a.card.now) in
     let w = passed q a.k (placed a.figures) c.in_ok-before_search.ensures in
     let opens = given q a.k w.opens in
     let g = figured a.asked.n a.figures w.right in (
@@ -38,7 +37,7 @@ find_run-requires c =
 pub returns-in_default : goal.returns-in_default
 returns-in_default c =
     let a = c.args in
-    let q = within a.held a.limits.now (lent_for a.asked (call_number a.call) a.guided a.summary.now a.map.now a.card.now) in
+    let q = within a.held a.limits.now (lent_for a.asked a.call a.guided a.summary.now a.map.now a.card.now) in
     let p = placed a.figures in (
       searched q a.k p (refused 10) c.in_ok-before_search.ensures (no_fit q a.k p (sym c.find_run.ensures ∙ c.in_default.is)),
       tt,
@@ -47,7 +46,7 @@ returns-in_default c =
 pub returns-then-asked-k : goal.returns-then-asked-k
 returns-then-asked-k c =
     let a = c.args in
-    let q = within a.held a.limits.now (lent_for a.asked (call_number a.call) a.guided a.summary.now a.map.now a.card.now) in
+    let q = within a.held a.limits.now (lent_for a.asked a.call a.guided a.summary.now a.map.now a.card.now) in
     let p = placed a.figures in (
       searched q a.k p (refused 4) c.in_ok-before_search.ensures
           (too_few q a.k p c.in-Some.least (sym c.find_run.ensures ∙ c.in-Some.is) c.if-asked-k.true),
@@ -57,7 +56,7 @@ returns-then-asked-k c =
 pub returns : goal.returns
 returns c =
     let a = c.args in
-    let q = within a.held a.limits.now (lent_for a.asked (call_number a.call) a.guided a.summary.now a.map.now a.card.now) in
+    let q = within a.held a.limits.now (lent_for a.asked a.call a.guided a.summary.now a.map.now a.card.now) in
     let p = placed a.figures in
     let fit = sym c.find_run.ensures ∙ c.in-Some.is in (
       searched q a.k p accepted c.in_ok-before_search.ensures

@@ -9,7 +9,7 @@ use Rattle.std.proofs.lemmas.Option.{MatchOption-at_some, MatchOption-at_none}
 use Rattle.catalogue_standings.specs.Rows.{accepted, refused}
 use Rattle.catalogue_standings.specs.declared.Answer.TheVariants.{Blank}
 use Rattle.roles.specs.Roles as names
-use Rattle.refusals.specs.Effects.{out_of, complete_verdict, blank_place}
+use Rattle.refusals.specs.Effects.{out_of, refusal_out, complete_verdict, blank_place}
 use Rattle.refusals.specs.Lent.{lent_for}
 use Rattle.refusals.proofs.Complete.{out, by_row, not_nine}
 use Rattle.call_put.proofs.complete.complete.Goals as goal
@@ -18,7 +18,8 @@ pub returns-in-Err : goal.returns-in-Err
 returns-in-Err c =
     let a = c.args in
     let q = lent_for a.asked names.complete false [] a.map.now a.card.now in
-    by_row q _ _ c.refusal.ensures c.in-Err.ensures (not_nine c.in-Err.why)
+    by_row q _ _ (c.refusal.ensures ∙ ap (refusal_out a.asked.free a.asked.entry) c.number.ensures)
+    c.in-Err.ensures (not_nine c.in-Err.why)
 
 pub returns-in-Ok-Some : goal.returns-in-Ok-Some
 returns-in-Ok-Some c =

@@ -2,9 +2,10 @@
 -- lie inside the card.
 -- Assumes nothing.
 
-use mathlib.Core.Path.{◌≡◌}
+use mathlib.Core.Path.{◌≡◌, ap, ◌∙◌}
 use native.Mathlib.Omega.{arith}
 use Rattle.catalogue_standings.proofs.Followed.{following, refusing}
+use Rattle.refusals.specs.Effects.{refusal_out}
 use Rattle.refusals.specs.Lent.{lent_for, within}
 use Rattle.roles.specs.Roles as names
 use Rattle.refusals.proofs.Accept.{taken, accept_verdict_on, accept_room}
@@ -34,7 +35,8 @@ returns-in-Err c =
     let q = within a.held a.limits.now (lent_for a.asked names.accept a.guided a.summary.now a.map.now a.card.now) in
     taken q a.start a.k _ _ _ _
     (unchanged q (accept_verdict_on q a.start a.k) a.start a.k _ c.refusal.result
-    (refusing (accept_verdict_on q a.start a.k) (λ s. s ≡ a.start) c.in-Err.is call.ensures) c.refusal.ensures)
+    (refusing (accept_verdict_on q a.start a.k) (λ s. s ≡ a.start) c.in-Err.is call.ensures)
+    (c.refusal.ensures ∙ ap (refusal_out a.asked.free a.asked.entry) c.number.ensures))
 
 pub returns-in-Ok : goal.returns-in-Ok
 returns-in-Ok c =

@@ -2,9 +2,10 @@
 -- inside the card.
 -- Assumes nothing.
 
-use mathlib.Core.Path.{◌≡◌}
+use mathlib.Core.Path.{◌≡◌, ap, ◌∙◌}
 use native.Mathlib.Omega.{arith}
 use Rattle.catalogue_standings.proofs.Followed.{following, refusing}
+use Rattle.refusals.specs.Effects.{refusal_out}
 use Rattle.refusals.specs.Lent.{lent_for, within}
 use Rattle.roles.specs.Roles as names
 use Rattle.refusals.proofs.Grow.{end, unchanged, changed}
@@ -50,7 +51,7 @@ returns-in-Err c =
     let q = within a.held a.limits.now (lent_for a.asked names.grow a.guided a.summary.now a.map.now a.card.now) in
     unchanged q a.m _ c.refusal.result
     (refusing (grow_verdict_on q a.m) (λ s. s ≡ end q a.m) c.in-Err.is call.ensures)
-    c.refusal.ensures
+    (c.refusal.ensures ∙ ap (refusal_out a.asked.free a.asked.entry) c.number.ensures)
 
 pub returns-in-Ok : goal.returns-in-Ok
 returns-in-Ok c =

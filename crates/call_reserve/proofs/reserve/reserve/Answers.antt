@@ -2,9 +2,10 @@
 -- lie inside the card.
 -- Assumes nothing.
 
-use mathlib.Core.Path.{◌≡◌}
+use mathlib.Core.Path.{◌≡◌, ap, ◌∙◌}
 use native.Mathlib.Omega.{arith}
 use Rattle.catalogue_standings.proofs.Followed.{following, refusing}
+use Rattle.refusals.specs.Effects.{refusal_out}
 use Rattle.refusals.specs.Lent.{lent_for, within}
 use Rattle.roles.specs.Roles as names
 use Rattle.refusals.specs.Placement.{placed}
@@ -38,7 +39,8 @@ returns-in-Err c =
     let p = placed a.figures in
     taken q a.k p _ _ _ _
     (unchanged q (reserve_verdict_on q a.k p) (reserve_start_on q a.k p) a.k _ c.refusal.result
-    (refusing (reserve_verdict_on q a.k p) (λ s. s ≡ reserve_start_on q a.k p) c.in-Err.is call.ensures) c.refusal.ensures)
+    (refusing (reserve_verdict_on q a.k p) (λ s. s ≡ reserve_start_on q a.k p) c.in-Err.is call.ensures)
+    (c.refusal.ensures ∙ ap (refusal_out a.asked.free a.asked.entry) c.number.ensures))
 
 pub returns-in-Ok : goal.returns-in-Ok
 returns-in-Ok c =
