@@ -7,7 +7,7 @@ use mathlib.Core.List.{List}
 use native.Mathlib.Omega.{arith}
 use lib.Dec.{eqb}
 use lib.ListN.{length}
-use borrow.Author.Tests.{ne_eqb}
+use borrow.Author.Tests.{ne_eqb, eqb-true}
 use Rattle.map_blocks.specs.Blocks.{free}
 use Rattle.survey.specs.Survey.{counts_of}
 use Rattle.survey.specs.declared.Counts.{Counts}
@@ -138,7 +138,7 @@ module _ (shape : Shape) (role : ℕ) (image map : List ℕ) (entries : List Ent
         let f = shape_fits_to _ _ _ (fits (sym number_is ∙ z)) in
         rw (is, maps) (f.limit, f.covered)
 
-    pub refusal_ends : (r : ℕ) (text' : List ℕ) → (loaded.number ≡ 0 → ⊥) → Writes (refusal_text loaded.number) text 0 r text'
+    refusal_ends : (r : ℕ) (text' : List ℕ) → (loaded.number ≡ 0 → ⊥) → Writes (refusal_text loaded.number) text 0 r text'
         → Prints shape role image map entries scratch text r map' entries' scratch' text'
     refusal_ends r text' d w = (
       refusal_printed (λ z. d (number_is ∙ z)) r text'
@@ -148,7 +148,7 @@ module _ (shape : Shape) (role : ℕ) (image map : List ℕ) (entries : List Ent
       scratches ∙ leaves.2,
     )
 
-    pub card_ends : (counts : Counts) (r : ℕ) (text' : List ℕ) → loaded.number ≡ 0
+    card_ends : (counts : Counts) (r : ℕ) (text' : List ℕ) → loaded.number ≡ 0
         → counts ≡ counts_of (free map') loaded.shape.blocks
         → Writes (card_text loaded.shape.blocks loaded.shape.free counts entries') text 0 r text'
         → Prints shape role image map entries scratch text r map' entries' scratch' text'
@@ -158,3 +158,19 @@ module _ (shape : Shape) (role : ℕ) (image map : List ℕ) (entries : List Ent
       sheets' ∙ leaves.1,
       scratches ∙ leaves.2,
     )
+
+    -- both together: the text of the card where the load was accepted, and else that of the refusal
+    pub prints : (counts : Counts) (r : ℕ) (text' : List ℕ)
+        → (loaded.number ≡ 0 → (counts ≡ counts_of (free map') loaded.shape.blocks)
+        × Writes (card_text loaded.shape.blocks loaded.shape.free counts entries') text 0 r text')
+        → ((loaded.number ≡ 0 → ⊥) → Writes (refusal_text loaded.number) text 0 r text')
+        → Prints shape role image map entries scratch text r map' entries' scratch' text'
+    prints counts r text' card refusal = go (eqb loaded.number 0) refl
+      where
+        go : (t : Bool) → eqb loaded.number 0 ≡ t → Prints shape role image map entries scratch text r map' entries' scratch' text'
+        go true e =
+            let z : loaded.number ≡ 0 = eqb-true loaded.number 0 e in
+            let w = card z in card_ends counts r text' z w.0 w.1
+        go false e =
+            let d : loaded.number ≡ 0 → ⊥ = λ z. let h : eqb loaded.number 0 ≡ true = rw z refl in cc in
+            refusal_ends r text' d (refusal d)
