@@ -31,7 +31,7 @@ pub fn quiet_groups<F: Fn(usize) -> bool>(first: usize, stop: usize, quiet: F) -
 }
 
 // The eight words from i on, or-ed together: 0 only where each of them is.
-fn any_free(map: &[u64], i: usize) -> u64
+pub fn any_free(map: &[u64], i: usize) -> u64
     requires { (i ≤ 4096) × (i + 8 ≤ length map.now) }
     ensures { result ≡ 0 → (t : ℕ) → i ≤ t → t < i + 8 → get_or map.now t 0 ≡ 0 }
 {

@@ -10,7 +10,9 @@ ghost use Rattle.map_search.specs.Search.{HasBits, Finds};
 
 pub mod groups;
 
-use groups::{group_end, taken_words};
+use groups::taken_words;
+// Both are functions of the crate itself too.
+pub use groups::{any_free, group_end};
 use map_blocks::word::part;
 use map_search_word::word::{gaps, tail};
 use map_search_word::{Sought, core_of, scan_word};

@@ -83,6 +83,14 @@ writes_byte b text at h = record { ends = omega (arith, h); leaves = refl }
 pub writes_past : (bytes text : List ℕ) (at : ℕ) → length text ≤ at → Writes bytes text at at text
 writes_past bytes text at h = record { ends = sym (behind_past bytes text at h); leaves = sym (written_past bytes text at h) }
 
+-- with as many bytes as there is room for, the text is full
+pub writes_full : {bytes text text' : List ℕ} {at r : ℕ} → Writes bytes text at r text' → length text ≤ at + length bytes
+    → length text' ≤ r
+unfolding behind
+writes_full {bytes} {text} {text'} {at} {r} w h =
+    let l : length text' ≡ length text = ap length w.leaves ∙ written_length text at bytes in
+    omega (arith, w.ends, l, h)
+
 pub writes_none : (text : List ℕ) (at : ℕ) → Writes [] text at at text
 writes_none text at = record { ends = sym (behind_none text at); leaves = sym (written_none text at) }
 

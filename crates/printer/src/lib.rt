@@ -2,7 +2,7 @@
 // to a lent text; what finds no room there is left out, so that no length has to be asked for.
 #![tactic(auto)]
 
-ghost use Rattle.std.specs.Prelude.{[], ◌∷◌};
+ghost use Rattle.std.specs.Prelude.{[], ◌∷◌, ◌++◌, ◌-◌, length, take};
 ghost use Rattle.printer.specs.Decimal.{decimal, numeral};
 ghost use Rattle.printer.specs.Lines.{card_line, runs_line, sheet_line};
 ghost use Rattle.printer.specs.Text.{sheet_lines, card_text, refusal_text};
@@ -87,13 +87,25 @@ pub fn write_line(text: &mut [u8], at: usize, sheet: usize, entry: Entry) -> usi
     write_numeral(text, at, entry.length as usize, NEWLINE)
 }
 
-// Writes a line for each sheet.
-pub fn write_sheets(text: &mut [u8], at: usize, catalogue: &[Entry]) -> usize
-    ensures { Writes (sheet_lines 0 catalogue.now) text.old at result text.new }
+// Writes the first two lines, and tells where those of the sheets go.
+pub fn write_head(text: &mut [u8], n: u32, free: u32, c: usize, counts: Counts) -> usize
+    ensures { Writes (card_line n free c ++ runs_line counts) text.old 0 result text.new }
 {
+    let second = write_card(text, 0, n, free, c);
+    write_runs(text, second, counts)
+}
+
+// Writes a line for each sheet, the first being number `first`, up to one whose number is not below the text's length. A line
+// has a byte at least: from a place at or behind `first` on the text is full by then, and no line is left out that would find
+// room (`every_line` in crates/printer/proofs/Lines.antt).
+pub fn write_sheets(text: &mut [u8], at: usize, first: usize, catalogue: &[Entry]) -> usize
+    ensures { Writes (sheet_lines first (take (length text.old - first) catalogue.now)) text.old at result text.new }
+{
+    let most = text.len().saturating_sub(first);
+    let listed = &catalogue[..catalogue.len().min(most)];
     let mut place = at;
-    for (sheet, entry) in catalogue.iter().enumerate() {
-        place = write_line(text, place, sheet, *entry);
+    for (index, entry) in listed.iter().enumerate() {
+        place = write_line(text, place, first + index, *entry);
     }
     place
 }
@@ -108,9 +120,8 @@ pub fn describe_card(
 ) -> usize
     ensures { Writes (card_text n free counts catalogue.now) text.old 0 result text.new }
 {
-    let second = write_card(text, 0, n, free, catalogue.len());
-    let third = write_runs(text, second, counts);
-    write_sheets(text, third, catalogue)
+    let third = write_head(text, n, free, catalogue.len(), counts);
+    write_sheets(text, third, 0, catalogue)
 }
 
 // Writes the text of a refusal, and gives the number of bytes written. 19 bytes are enough.

@@ -33,8 +33,10 @@ pub struct Table {
 }
 
 impl Table {
+    // The table of these rows.
     pub fn new(rows: [(u8, u8); 256]) -> Table
         requires { Ruled rows }
+        ensures { result.rows ≡ rows }
     {
         Table { rows }
     }
