@@ -10,7 +10,7 @@ pub fn put4(s: &mut [u8], n: u32)
     requires { length s.old ≡ 4 }
     ensures { s.new ≡ bytes4 n }
 {
-    s.copy_from_slice(&n.to_be_bytes());
+    copy(s, &n.to_be_bytes());
 }
 
 // The number stored from `at` on.
