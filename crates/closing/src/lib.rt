@@ -133,7 +133,7 @@ fn verdict(
     ) {
         return Err(Refusal::Misfit);
     }
-    if !test_sound(map, catalogue, scratch, n, n - free) {
+    if !test_sound(map, catalogue, scratch, n, n.checked_sub(free)) {
         return Err(Refusal::Damaged);
     }
     Ok(())
