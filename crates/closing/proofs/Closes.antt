@@ -1,7 +1,7 @@
 -- What a closing answers and leaves, by its rows.
 -- Assumes nothing.
 use Rattle.std.proofs.Common.{◌≡◌, ℕ, ◌-◌, ◌*◌, ◌≤◌, Bool, true, false, cond, not, ◌&&◌, eqb, List, length, replicate, sym}
-use Rattle.std.proofs.Common.{refl}
+use Rattle.std.proofs.Common.{refl, Option, SomeIff}
 use Rattle.std.proofs.Common.{ap, ◌∙◌, ap₂, arith, eqb-true}
 use Rattle.laws.proofs.Bools.{and_left, and_right}
 use Rattle.catalogue.specs.Entries.{held}
@@ -13,7 +13,7 @@ use Rattle.image_soundness.specs.Windows.{tested}
 use Rattle.image.proofs.Refused.{not_zero}
 use Rattle.catalogue_standings.specs.Refusals.{number}
 use Rattle.catalogue_standings.specs.declared.Refusal.{Refusal}
-use Rattle.image_soundness.proofs.Tested.{tested_sound}
+use Rattle.image_soundness.proofs.Tested.{subtracted_sound}
 use Rattle.image_soundness.proofs.WhenSound.{sound_to}
 use Rattle.image.specs.Table.{save_fits}
 use Rattle.image.proofs.Fitting.{SaveFits, save_fits_to}
@@ -108,8 +108,9 @@ module _ (turned : Bool) (n spare : ℕ) (fits : Bool) (map : List ℕ) (entries
       long = close_fits_to n spare fits (length entries) (length map) (length card) (length scratch) f
 
       -- whether the state is sound, as it was tested
-      pub whole_tested : tested map entries (length scratch) n (n - spare) ≡ sound state
-      whole_tested = tested_sound state (length scratch) long.saved.shape long.saved.scratch
+      pub whole_tested : (blocks : Option ℕ) → SomeIff blocks (spare ≤ n) (n - spare)
+          → tested map entries (length scratch) n blocks ≡ sound state
+      whole_tested = subtracted_sound state (length scratch) long.saved.shape long.saved.scratch
 
       pub told-4 : sound state ≡ false → 4 ≡ told
       unfolding close_number

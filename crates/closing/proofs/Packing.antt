@@ -118,7 +118,10 @@ module _ (all : List Entry) where
       is = k;
       none = λ e m l. ⊎_elim
           (λ (lt : e.start < t). lt)
-          (λ (ge : t ≤ e.start). absurd (subst (λ (r : Nearest). Falls r e.start) k (near e m l ge)))
+          (λ (ge : t ≤ e.start).
+          let inside : e.start + e.length ≤ n = p.inside e m in
+          let far : 4294967295 ≤ e.start = subst (λ (r : Nearest). Falls r e.start) k (near e m l ge) in
+          absurd (omega arith))
           (order e.start t);
     }
 

@@ -11,17 +11,17 @@ use Rattle.catalogue.specs.declared.Entry.{Entry}
 use Rattle.closing.specs.Rounds.{Nearest, starts_behind, is_nearer, nearer_of, nearest_from}
 use Rattle.closing.proofs.Members.{Member}
 
--- something is found that starts at s or before
+-- something is found that starts at s or before, or s is where nothing is found
 abbrev pub Falls : Nearest → ℕ → Type 0
-Falls None s = ⊥
+Falls None s = 4294967295 ≤ s
 Falls (Some p) s = p.1.start ≤ s
 
 behind_falls : (t : Nearest) (e : Entry) (s : ℕ) → starts_behind t e ≡ true → Falls t s → e.start ≤ s
-behind_falls None e s h l = absurd l
+behind_falls None e s h l = let b : e.start < 4294967295 = ltb-true e.start 4294967295 h in omega arith
 behind_falls (Some p) e s h l = let b : e.start < p.1.start = ltb-true e.start p.1.start h in omega arith
 
 not_behind : (t : Nearest) (e : Entry) → starts_behind t e ≡ false → Falls t e.start
-not_behind None e h = absurd (clash true refl h)
+not_behind None e h = ltb-false e.start 4294967295 h
 not_behind (Some p) e h = ltb-false e.start p.1.start h
 
 -- what the test shows

@@ -3,7 +3,7 @@
 use Rattle.std.proofs.Common.{◌≡◌, ℕ, suc, ◌+◌, ◌<◌, ◌≤◌, List, [], ◌∷◌, length, get_or, drop, refl, sym, ap, ◌∙◌, add-one}
 use borrow.Author.Tests.{lt-leb}
 use Rattle.closing.proofs.Picks.{taken, passed}
-use Rattle.std.proofs.Common.{Bool, true, false, le-leb, le-ltb, ◌&&◌, ltb, leb, lt-ltb, arith}
+use Rattle.std.proofs.Common.{Bool, true, false, le-leb, le-ltb, ◌&&◌, ltb, leb, lt-ltb}
 use Rattle.std.specs.Prelude.{Some, None}
 use Rattle.std.proofs.Math.Seq.{drop-cons}
 use Rattle.std.proofs.lemmas.List.{drop_all}
@@ -33,21 +33,19 @@ module _ (es : List Entry) (at i : ℕ) (t : Nearest) where
   pub end : length es ≤ i → nearest_from at i (drop i es) t ≡ t
   end h = rw (drop_all i es h) (nearest_none at i t)
 
--- what is kept beside the sheet that is found: its start, or what is behind every start
+-- what is kept beside the sheet that is found: its start, or the block that no card has
 abbrev pub Before : Nearest → ℕ → Type 0
-Before None b = b ≡ 4294967296
+Before None b = b ≡ 4294967295
 Before (Some p) b = b ≡ p.1.start
 
 -- the test of an entry, by that
 abbrev pub waits_before : Entry → ℕ → ℕ → Bool
 waits_before e at before = leb 1 e.length && leb at e.start && ltb e.start before
 
-pub same_test : (at : ℕ) (t : Nearest) (b : ℕ) (e : Entry) → Before t b → e.start < 4294967296
-    → waits_before e at b ≡ is_nearer at t e
+pub same_test : (at : ℕ) (t : Nearest) (b : ℕ) (e : Entry) → Before t b → waits_before e at b ≡ is_nearer at t e
 unfolding is_nearer
-same_test at None b e k h =
-    ap (λ (c : Bool). leb 1 e.length && leb at e.start && c) (lt-ltb e.start b (omega (arith, k)))
-same_test at (Some p) b e k h = ap (λ (s : ℕ). leb 1 e.length && leb at e.start && ltb e.start s) k
+same_test at None b e k = ap (λ (s : ℕ). leb 1 e.length && leb at e.start && ltb e.start s) k
+same_test at (Some p) b e k = ap (λ (s : ℕ). leb 1 e.length && leb at e.start && ltb e.start s) k
 
 -- what the tests of an entry decide
 module _ (at b : ℕ) (e : Entry) where
@@ -65,17 +63,16 @@ module _ (at b : ℕ) (e : Entry) where
     is_first h l = simp (le-leb 1 e.length some, le-leb at e.start h, lt-ltb e.start b l)
 
 -- so a turn takes the entry, or passes over it
-module _ (es : List Entry) (at i : ℕ) (t : Nearest) (b : ℕ) (h : i < length es) (k : Before t b)
-    (small : (get_or es i zeros).start < 4294967296) where
+module _ (es : List Entry) (at i : ℕ) (t : Nearest) (b : ℕ) (h : i < length es) (k : Before t b) where
   abbrev e : Entry
   e = get_or es i zeros
 
   pub takes : waits_before e at b ≡ true
       → nearest_from at (i + 1) (drop (i + 1) es) (Some (i, e)) ≡ nearest_from at i (drop i es) t
-  takes w = turn es at i t (Some (i, e)) h (sym (taken at t e i (sym (same_test at t b e k small) ∙ w)))
+  takes w = turn es at i t (Some (i, e)) h (sym (taken at t e i (sym (same_test at t b e k) ∙ w)))
 
   pub passes : waits_before e at b ≡ false → nearest_from at (i + 1) (drop (i + 1) es) t ≡ nearest_from at i (drop i es) t
-  passes w = turn es at i t t h (sym (passed at t e i (sym (same_test at t b e k small) ∙ w)))
+  passes w = turn es at i t t h (sym (passed at t e i (sym (same_test at t b e k) ∙ w)))
 
 module _ (es : List Entry) (card : List ℕ) (at : ℕ) where
   pub at_none : rounds_at es card 0 at ≡ at

@@ -1,7 +1,7 @@
 -- How closing goes: round by round the extent that starts next moves to the end of those that have moved. `rounds_close`
 -- (proofs/Closing.antt) says that as many rounds as there are entries make the closed card of a sound state.
 -- Assumes nothing.
-use Rattle.std.specs.Prelude.{ℕ, zero, suc, ◌+◌, ◌*◌, ◌%◌, Bool, true, cond, ◌&&◌, List, [], ◌∷◌, length}
+use Rattle.std.specs.Prelude.{ℕ, zero, suc, ◌+◌, ◌*◌, ◌%◌, Bool, cond, ◌&&◌, List, [], ◌∷◌, length}
 use Rattle.std.specs.Prelude.{nat_le, nat_lt, slice_set, slice_index_or, Option, Some, None}
 use Rattle.catalogue.specs.Entries.{zeros}
 use Rattle.catalogue.specs.declared.Entry.{Entry}
@@ -13,9 +13,10 @@ use Rattle.closing_moves.specs.Moved.{moved}
 abbrev pub Nearest : Type 0
 Nearest = Option (ℕ × Entry)
 
--- It starts behind an entry, or nothing is found yet.
+-- It starts behind an entry, or nothing is found yet. An entry that starts at block 4294967295, which no card has, is never
+-- found.
 abbrev pub starts_behind : Nearest → Entry → Bool
-starts_behind None e = true
+starts_behind None e = nat_lt e.start 4294967295
 starts_behind (Some p) e = nat_lt e.start p.1.start
 
 -- The entry has an extent that starts at or after the end of those that have moved, and before the one found so far.

@@ -23,8 +23,8 @@ use image_windows::test_sound;
 use map_blocks::run::{TAKEN, fresh, mark};
 use roles::Call;
 
-// Every extent starts before it.
-const BEHIND: u64 = 4294967296;
+// An extent that starts here is never found. No card has this block.
+const BEHIND: u32 = 4294967295;
 
 // Of the extents that start at or after `at`, where those that have moved end, the sheet of the one with the least start. Its
 // start is kept beside it, since reading it from the entry that is found takes 16 % more instructions; and the test stands in
@@ -36,7 +36,7 @@ fn nearest(catalogue: &[Entry], at: u32) -> Option<usize>
     let mut nearest = None;
     let mut before = BEHIND;
     for (sheet, entry) in catalogue.iter().enumerate() {
-        let start = u64::from(entry.start);
+        let start = entry.start;
         if entry.length >= 1 && entry.start >= at && start < before {
             nearest = Some(sheet);
             before = start;
@@ -133,7 +133,7 @@ fn verdict(
     ) {
         return Err(Refusal::Misfit);
     }
-    if !test_sound(map, catalogue, scratch, n, n - free) {
+    if !test_sound(map, catalogue, scratch, n, n.checked_sub(free)) {
         return Err(Refusal::Damaged);
     }
     Ok(())

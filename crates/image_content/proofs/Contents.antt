@@ -6,6 +6,7 @@ use mathlib.Core.List.{List}
 use Prim.Native.Nat.{ℕ, ◌+◌, ◌-◌, ◌*◌}
 use native.Mathlib.Omega.{arith}
 use lib.ListN.{drop}
+use Rattle.std.specs.Prelude.{Some}
 use Rattle.map_blocks.specs.Maps.{words_for}
 use Rattle.block_seals.specs.Sealed.{blank}
 use Rattle.catalogue_standings.specs.Limits.{shape_fits}
@@ -25,7 +26,7 @@ state n spare entries map = record { blocks = n; spare = spare; entries = entrie
 module _ (image : List ℕ) (n spare c : ℕ) (en : n ≡ blocks_in image) (es : spare ≡ free_count_in image)
     (ec : c ≡ sheets_in image) where
   pub content_sound : shape_fits n spare (words_for n) ≡ true → (m : ℕ) → m ≡ scratch_words (words_for n)
-      → tested (map_in image n c) (entries_in image c) m n (n - spare) ≡ sound (state_in image)
+      → tested (map_in image n c) (entries_in image c) m n (Some (n - spare)) ≡ sound (state_in image)
   content_sound fit m size =
       tested_sound (state n spare (entries_in image c) (map_in image n c)) m
       (ap (shape_fits n spare) (map_length image n c) ∙ fit) (size ∙ ap scratch_words (sym (map_length image n c)))

@@ -3,10 +3,12 @@
 use mathlib.Core.Path.{◌≡◌, sym, ap, ◌∙◌}
 use mathlib.Core.Bool.{Bool, true, false, not}
 use mathlib.Core.List.{List, []}
-use Prim.Native.Nat.{ℕ, ◌-◌, ◌*◌}
+use Prim.Native.Nat.{ℕ, ◌-◌, ◌*◌, ◌≤◌}
 use lib.Dec.{eqb}
 use lib.ListN.{length}
 use borrow.Author.Tests.{eq-eqb, ne_eqb}
+use Rattle.std.specs.Prelude.{Option}
+use Rattle.std.specs.Option.{SomeIff}
 use Rattle.catalogue_standings.proofs.Openings.{skip, stop, none_left}
 use Rattle.catalogue_standings.specs.Rows.{row_number}
 use Rattle.image.specs.Image.{frames_for}
@@ -16,7 +18,7 @@ use Rattle.image.proofs.Fitting.{save_fits_to}
 use Rattle.catalogue.specs.declared.Entry.{Entry}
 use Rattle.image_soundness.specs.Sound.{State, sound}
 use Rattle.image_soundness.specs.Windows.{tested}
-use Rattle.image_soundness.proofs.Tested.{tested_sound}
+use Rattle.image_soundness.proofs.Tested.{subtracted_sound}
 
 module _ (turned : Bool) (n spare : ℕ) (map : List ℕ) (entries : List Entry) (scratch image : List ℕ) where
   abbrev fit : Bool
@@ -39,10 +41,11 @@ module _ (turned : Bool) (n spare : ℕ) (map : List ℕ) (entries : List Entry)
 
     module _ (f : fit ≡ true) where
       -- whether the state is sound, as it was tested
-      pub save_tested : tested map entries (length scratch) n (n - spare) ≡ sound state
+      pub save_tested : (blocks : Option ℕ) → SomeIff blocks (spare ≤ n) (n - spare)
+          → tested map entries (length scratch) n blocks ≡ sound state
       save_tested =
           let l = save_fits_to n spare (length entries) (length map) (length scratch) f in
-          tested_sound state (length scratch) l.shape l.scratch
+          subtracted_sound state (length scratch) l.shape l.scratch
 
       pub save-row-4 : sound state ≡ false → 4 ≡ told
       unfolding save_number save_verdict save_rows

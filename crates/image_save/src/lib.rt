@@ -43,7 +43,7 @@ fn verdict(
     if !save_fits(n, free, count, map.len(), scratch.len()) {
         return Err(Refusal::Misfit);
     }
-    if !test_sound(map, catalogue, scratch, n, n - free) {
+    if !test_sound(map, catalogue, scratch, n, n.checked_sub(free)) {
         return Err(Refusal::Damaged);
     }
     if image.len() != BLOCK * frames_for(n, count) {

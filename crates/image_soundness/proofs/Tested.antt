@@ -7,12 +7,12 @@ use mathlib.Core.List.{List}
 use Prim.Native.Nat.{ℕ, ◌+◌, ◌-◌, ◌*◌, ◌/◌, ◌%◌, ◌^◌, ◌≤◌, ◌<◌}
 use native.Mathlib.Nat.{zero-div}
 use native.Mathlib.Omega.{arith}
-use lib.Dec.{eqb, leb, ltb}
+use lib.Dec.{eqb, ltb}
 use Rattle.std.specs.Prelude.{Option, Some, None}
-use Rattle.std.specs.Option.{option_eq}
+use Rattle.std.specs.Option.{SomeIff, option_and_then, option_eq}
 use Rattle.map_blocks.proofs.Runs.{all_intro, all_elim}
 use lib.ListN.{length, get_or-eq_default}
-use borrow.Author.Tests.{eqb-true, lt-ltb, le-ltb, le-leb, lt-leb}
+use borrow.Author.Tests.{eqb-true, lt-ltb, le-ltb}
 use Rattle.map_blocks.specs.Blocks.{free}
 use Rattle.laws.proofs.Bools.{and_left, and_right, and_both, both_ways, order}
 use Rattle.catalogue.specs.Entries.{held}
@@ -21,7 +21,7 @@ use Rattle.catalogue_standings.specs.Limits.{shape_fits}
 use Rattle.catalogue_standings.proofs.Limits.{Fits, fits}
 use Rattle.image_soundness.specs.Scratch.{scratch_words}
 use Rattle.image_soundness.specs.Sound.{State, coverings, undamaged, sound}
-use Rattle.image_soundness.specs.Windows.{tally_of, window_passes, windows_pass, tested}
+use Rattle.image_soundness.specs.Windows.{tally_of, window_start, window_passes, windows_pass, tested}
 use Rattle.image_soundness.proofs.Covers.{one, same_one, cover_outside, still_all}
 use Rattle.image_soundness.proofs.Counted.{tally_counted, counted_tally}
 use Rattle.image_soundness.proofs.WhenSound.{Tidy, sound_to, to_sound, tidy_sound, sound_tidy}
@@ -42,18 +42,20 @@ left_none : (r : Option ℕ) → option_eq eqb r (Some 0) ≡ true → r ≡ Som
 left_none (Some x) e = ap Some (eqb-true x 0 e)
 left_none None e = absurd (true≢false (sym e))
 
--- the test, as it goes: a scratch that is too long, entries that do not make the blocks, and then the windows
-module _ (map : List ℕ) (es : List Entry) (m n blocks : ℕ) where
-  pub tested_long : 64 < m → false ≡ tested map es m n blocks
+-- the test, as it goes: no blocks to make, entries that do not make the blocks, and then the windows
+module _ (map : List ℕ) (es : List Entry) (m n : ℕ) (blocks : Option ℕ) where
+  pub tested_none : blocks ≡ None → false ≡ tested map es m n blocks
   unfolding tested
-  tested_long h = simp (lt-leb m 64 h)
+  tested_none h = ap (λ (b : Option ℕ). option_eq eqb (option_and_then (tally_of es n) b) (Some 0) && windows_pass map es m n)
+      (sym h)
 
-  module _ (few : m ≤ 64) (r : Option ℕ) (is : r ≡ tally_of es n blocks) (ne : Bool)
+  module _ (left : ℕ) (given : blocks ≡ Some left) (r : Option ℕ) (is : r ≡ tally_of es n left) (ne : Bool)
       (en : ne ≡ not (option_eq eqb r (Some 0))) where
     told : tested map es m n blocks ≡ (not ne && windows_pass map es m n)
     unfolding tested
     told =
-        ap₂ (λ (a b : Bool). a && b && windows_pass map es m n) (le-leb m 64 few)
+        ap (λ (b : Option ℕ). option_eq eqb (option_and_then (tally_of es n) b) (Some 0) && windows_pass map es m n) given
+        ∙ ap (λ (b : Bool). b && windows_pass map es m n)
         (ap (λ (r : Option ℕ). option_eq eqb r (Some 0)) (sym is) ∙ sym (ap not en ∙ not_not (option_eq eqb r (Some 0))))
       where
         not_not : (b : Bool) → not (not b) ≡ b
@@ -113,19 +115,28 @@ module _ (s : State) (m : ℕ) (fit : shape_fits s.blocks s.spare (length s.map)
       ∙ sym (ap one (le-ltb x n (omega (arith, l.covered))))) (order x (64 * length map))
 
   abbrev passes : ℕ → Bool
-  passes i = window_passes map es m n (4096 * i)
+  passes i = window_passes map es m n (window_start i)
+
+  -- all windows of the card begin before the last that may
+  early : (i : ℕ) → i < count → passes i ≡ window_passes map es m n (4096 * i)
+  early i h =
+      let l = limits in
+      let e : window_start i ≡ 4096 * i = omega (arith, l.limit) in
+      ap (window_passes map es m n) e
 
   pass_fine : windows_pass map es m n ≡ true → (i : ℕ) → i < count → Fine i
   unfolding windows_pass
   pass_fine h i l =
-      window_good map es n (4096 * i) m few (aligned i) (all_elim passes 0 count h i (omega arith) (omega arith))
+      window_good map es n (4096 * i) m few (aligned i)
+      (sym (early i l) ∙ all_elim passes 0 count h i (omega arith) (omega arith))
 
   fine_pass : undamaged n (λ b. false) es ≡ true → ((i : ℕ) → Fine i) → windows_pass map es m n ≡ true
   unfolding windows_pass
   fine_pass u good =
       let l = limits in
       all_intro passes 0 count
-      (λ i a h. good_window map es n (4096 * i) m few (aligned i) u (omega (arith, l.words)) (good i))
+      (λ i a h. early i (omega arith)
+      ∙ good_window map es n (4096 * i) m few (aligned i) u (omega (arith, l.words)) (good i))
 
   abbrev counted : Bool
   counted = option_eq eqb (tally_of es n (n - s.spare)) (Some 0)
@@ -133,14 +144,13 @@ module _ (s : State) (m : ℕ) (fit : shape_fits s.blocks s.spare (length s.map)
   abbrev pass : Bool
   pass = windows_pass map es m n
 
-  tested_tidy : tested map es m n (n - s.spare) ≡ true → Tidy n (n - s.spare) map es
+  tested_tidy : tested map es m n (Some (n - s.spare)) ≡ true → Tidy n (n - s.spare) map es
   unfolding tested
   tested_tidy h =
       let l = limits in
-      let some = left_none (tally_of es n (n - s.spare)) (and_right (leb m 64) counted
-      (and_left (leb m 64 && counted) pass h)) in
+      let some = left_none (tally_of es n (n - s.spare)) (and_left counted pass h) in
       let c = tally_counted n (n - s.spare) es 0 some in
-      let once = fine_once (pass_fine (and_right (leb m 64 && counted) pass h)) in
+      let once = fine_once (pass_fine (and_right counted pass h)) in
       record {
         whole = still_all n (λ b. false) (free map) es c.alone (λ b u k z.
             let e : coverings es b + one (free map b) ≡ 1 = once b (omega (arith, l.covered)) ∙ ap one (lt-ltb b n u) in
@@ -149,20 +159,24 @@ module _ (s : State) (m : ℕ) (fit : shape_fits s.blocks s.spare (length s.map)
         sum = omega (arith, c.enough, c.rest_is);
       }
 
-  tidy_tested : Tidy n (n - s.spare) map es → tested map es m n (n - s.spare) ≡ true
+  tidy_tested : Tidy n (n - s.spare) map es → tested map es m n (Some (n - s.spare)) ≡ true
   unfolding tested
   tidy_tested p =
       let u : undamaged n (λ b. false) es ≡ true = still_all n (free map) (λ b. false) es p.whole (λ b l c z. refl) in
       let z : n - s.spare - held es ≡ 0 = omega (arith, p.sum) in
       let some : tally_of es n (n - s.spare) ≡ Some 0 = counted_tally n (n - s.spare) es u (omega (arith, p.sum)) ∙ ap Some z in
-      and_both (leb m 64 && counted) pass
-      (and_both (leb m 64) counted (le-leb m 64 few) (ap (λ (r : Option ℕ). option_eq eqb r (Some 0)) some))
+      and_both counted pass (ap (λ (r : Option ℕ). option_eq eqb r (Some 0)) some)
       (fine_pass u (once_fine u p.once))
 
   -- the test is soundness
-  pub tested_sound : tested map es m n (n - s.spare) ≡ sound s
+  pub tested_sound : tested map es m n (Some (n - s.spare)) ≡ sound s
   tested_sound =
       let l = limits in
-      both_ways (tested map es m n (n - s.spare)) (sound s)
+      both_ways (tested map es m n (Some (n - s.spare))) (sound s)
       (λ h. to_sound s (tidy_sound s l.covered l.spare (tested_tidy h)))
       (λ h. tidy_tested (sound_tidy s l.covered l.spare (sound_to s h)))
+
+  -- with what the free count leaves of n, as it was subtracted
+  pub subtracted_sound : (blocks : Option ℕ) → SomeIff blocks (s.spare ≤ n) (n - s.spare) → tested map es m n blocks ≡ sound s
+  subtracted_sound (Some left) h = ap (λ (x : ℕ). tested map es m n (Some x)) h.1 ∙ tested_sound
+  subtracted_sound None h = let l = limits in absurd (h l.spare)

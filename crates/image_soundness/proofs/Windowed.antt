@@ -5,16 +5,16 @@ use mathlib.Core.Bool.{Bool, true, false, ◌&&◌}
 use mathlib.Core.List.{List}
 use Prim.Native.Nat.{ℕ, ◌+◌, ◌-◌, ◌*◌, ◌/◌, ◌%◌, ◌^◌, ◌≤◌, ◌<◌, min}
 use native.Mathlib.Omega.{arith}
-use lib.Dec.{eqb, ltb}
+use lib.Dec.{eqb, leb, ltb}
 use lib.ListN.{length, get_or}
-use borrow.Author.Tests.{ltb-true, lt-ltb}
+use borrow.Author.Tests.{ltb-true, lt-ltb, le-leb, lt-leb}
 use Rattle.map_blocks.specs.Blocks.{free}
 use Rattle.map_blocks.specs.Maps.{in_state, is_fresh}
 use Rattle.laws.proofs.Bools.{and_left, and_right, and_both, both_ways}
 use Rattle.map_blocks.proofs.Maps.{in_state_lem, state_of}
 use Rattle.map_blocks.proofs.Runs.{all_intro, all_elim, all_break}
 use Rattle.catalogue.specs.declared.Entry.{Entry}
-use Rattle.image_soundness.specs.Windows.{words_from, parts_stand, scratch_over, window_passes, windows_pass}
+use Rattle.image_soundness.specs.Windows.{words_from, parts_stand, scratch_over, window_start, window_passes, windows_pass}
 use Rattle.image_soundness.specs.Sound.{coverings, undamaged}
 use Rattle.image_soundness.proofs.Covers.{one, same_one}
 use Rattle.image_soundness.proofs.Parts.{over_adds, over-passes}
@@ -41,14 +41,21 @@ words_free map a m b h =
     ap₂ (λ (x y : ℕ). eqb (x / 2 ^ (63 - y) % 2) 1)
     (words_at_lem map a m (b / 64) (omega arith) ∙ ap (λ (x : ℕ). get_or map x 0) i) j
 
--- a window, by what it was found to be
+-- a window with a scratch that is too long
+pub window_long : (map : List ℕ) (es : List Entry) (m n lo : ℕ) → 64 < m → false ≡ window_passes map es m n lo
+unfolding window_passes
+window_long map es m n lo h = simp (lt-leb m 64 h)
+
+-- and with another, by what it was found to be
 module _ (map : List ℕ) (es : List Entry) (m n lo : ℕ) (words used : List ℕ) (stand : Bool)
-    (ew : words ≡ words_from map (lo / 64) m) (st : stand ≡ parts_stand es lo words)
+    (few : m ≤ 64) (ew : words ≡ words_from map (lo / 64) m) (st : stand ≡ parts_stand es lo words)
     (eu : stand ≡ true → used ≡ scratch_over es lo words) where
   pub window_told : (stand && is_fresh used (n - lo)) ≡ window_passes map es m n lo
   unfolding window_passes
   window_told =
       by stand st eu ∙ ap (λ (l : List ℕ). parts_stand es lo l && is_fresh (scratch_over es lo l) (n - lo)) ew
+      ∙ ap (λ (b : Bool). b && parts_stand es lo (words_from map (lo / 64) m)
+      && is_fresh (scratch_over es lo (words_from map (lo / 64) m)) (n - lo)) (sym (le-leb m 64 few))
     where
       by : (s : Bool) → s ≡ parts_stand es lo words → (s ≡ true → used ≡ scratch_over es lo words)
           → (s && is_fresh used (n - lo)) ≡ (parts_stand es lo words && is_fresh (scratch_over es lo words) (n - lo))
@@ -57,19 +64,19 @@ module _ (map : List ℕ) (es : List Entry) (m n lo : ℕ) (words used : List �
 
 -- all of them
 module _ (map : List ℕ) (es : List Entry) (m n : ℕ) where
-  pub window_fails : (i lo : ℕ) → lo ≡ 4096 * i → i < (n + 4095) / 4096 → window_passes map es m n lo ≡ false
+  pub window_fails : (i lo : ℕ) → lo ≡ window_start i → i < (n + 4095) / 4096 → window_passes map es m n lo ≡ false
       → false ≡ windows_pass map es m n
   unfolding windows_pass
   window_fails i lo e h f =
-      sym (all_break (λ i. window_passes map es m n (4096 * i)) 0 ((n + 4095) / 4096) i (omega arith) (omega arith)
+      sym (all_break (λ i. window_passes map es m n (window_start i)) 0 ((n + 4095) / 4096) i (omega arith) (omega arith)
       (ap (window_passes map es m n) (sym e) ∙ f))
 
-  pub windows_told : (count : ℕ) → (n + 4095) / 4096 ≤ count → ((i : ℕ) → i < count → window_passes map es m n (4096 * i)
+  pub windows_told : (count : ℕ) → (n + 4095) / 4096 ≤ count → ((i : ℕ) → i < count → window_passes map es m n (window_start i)
       ≡ true)
       → true ≡ windows_pass map es m n
   unfolding windows_pass
   windows_told count h good =
-      sym (all_intro (λ i. window_passes map es m n (4096 * i)) 0 ((n + 4095) / 4096) (λ i a l. good i (omega arith)))
+      sym (all_intro (λ i. window_passes map es m n (window_start i)) 0 ((n + 4095) / 4096) (λ i a l. good i (omega arith)))
 
 module _ (map : List ℕ) (es : List Entry) (n lo m : ℕ) (few : m ≤ 64) (aligned : lo ≡ 64 * (lo / 64)) where
   abbrev words : List ℕ
@@ -100,9 +107,12 @@ module _ (map : List ℕ) (es : List Entry) (n lo m : ℕ) (few : m ≤ 64) (ali
   pub window_good : window_passes map es m n lo ≡ true → Good
   unfolding window_passes
   window_good o b h =
-      let fresh : is_fresh used (n - lo) ≡ true = and_right (parts_stand es lo words) (is_fresh used (n - lo)) o in
+      let stand : (leb m 64 && parts_stand es lo words) ≡ true =
+      and_left (leb m 64 && parts_stand es lo words) (is_fresh used (n - lo)) o in
+      let fresh : is_fresh used (n - lo) ≡ true =
+      and_right (leb m 64 && parts_stand es lo words) (is_fresh used (n - lo)) o in
       let f : free used b ≡ ltb b (n - lo) = fresh_to (n - lo) used fresh b (omega (arith, used_long)) in
-      let adds = over_adds lo es words (and_left (parts_stand es lo words) (is_fresh used (n - lo)) o) b
+      let adds = over_adds lo es words (and_right (leb m 64) (parts_stand es lo words) stand) b
       (omega (arith, words_long)) (omega arith) in
       ap (λ (x : Bool). coverings es (lo + b) + one x) (sym (same_free b h)) ∙ adds ∙ ap one (f ∙ ends b)
 
@@ -114,7 +124,8 @@ module _ (map : List ℕ) (es : List Entry) (n lo m : ℕ) (few : m ≤ 64) (ali
       λ b h. ap (λ (x : Bool). coverings es (lo + b) + one x) (same_free b h) ∙ good b h ∙ ap one (sym (ends b)) in
       let o : parts_stand es lo words ≡ true = over-passes lo n es words u (omega (arith, words_long)) (λ b h k.
       omega (arith, once b (omega (arith, words_long)), at_most (ltb b (n - lo)))) in
-      and_both (parts_stand es lo words) (is_fresh used (n - lo)) o
+      and_both (leb m 64 && parts_stand es lo words) (is_fresh used (n - lo))
+      (and_both (leb m 64) (parts_stand es lo words) (le-leb m 64 few) o)
       (to_fresh (n - lo) used (λ b h.
       let k : b < 64 * m = omega (arith, used_long) in
       same_one (free used b) (ltb b (n - lo))

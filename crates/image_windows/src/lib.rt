@@ -16,6 +16,9 @@ use map_blocks::run::{FREE, TAKEN, all_marked, is_fresh, mark};
 // The blocks of a window.
 pub const WINDOW: u32 = 4096;
 
+// No window begins behind this block, which no card has.
+const LAST: u32 = 266240;
+
 // Whether an extent may have a part in the window that begins at block lo. Most have none, and one comparison says so of both
 // ends: the start, counted back from the window's last block, is at least the length and 4095 more if the extent ends before
 // the window, and a number near 2^64 if it begins behind it.
@@ -82,11 +85,14 @@ fn release_parts(catalogue: &[Entry], lo: u32, scratch: &mut [u64]) -> bool
     true
 }
 
-// Whether the window from block lo on is as it should be.
+// Whether the window from block lo on is as it should be. With a scratch of over 64 words it is not.
 fn test_window(map: &[u64], catalogue: &[Entry], scratch: &mut [u64], n: u32, lo: u32) -> bool
-    requires { (lo ≤ n) × (length scratch.old ≤ 64) }
+    requires { lo ≤ n }
     ensures { result ≡ window_passes map.now catalogue.now (length scratch.old) n lo }
 {
+    if SCRATCH < scratch.len() {
+        return false;
+    }
     copy_from(scratch, map, (lo / 64) as usize);
     let stand = release_parts(catalogue, lo, scratch);
     stand && is_fresh(scratch, n - lo)
@@ -94,38 +100,44 @@ fn test_window(map: &[u64], catalogue: &[Entry], scratch: &mut [u64], n: u32, lo
 
 // All windows, up to one that fails.
 fn test_windows(map: &[u64], catalogue: &[Entry], scratch: &mut [u64], n: u32) -> bool
-    requires { length scratch.old ≤ 64 }
     ensures { result ≡ windows_pass map.now catalogue.now (length scratch.old) n }
 {
     for i in 0..n.div_ceil(WINDOW) {
-        if !test_window(map, catalogue, scratch, n, i * WINDOW) {
+        let lo = (i * WINDOW).min(LAST);
+        if !test_window(map, catalogue, scratch, n, lo) {
             return false;
         }
     }
     true
 }
 
-// The test, with a scratch of 64 words at most.
-fn passes(map: &[u64], catalogue: &[Entry], scratch: &mut [u64], n: u32, blocks: u32) -> bool
+// The test: first each entry alone, and then the windows.
+fn passes(
+    map: &[u64],
+    catalogue: &[Entry],
+    scratch: &mut [u64],
+    n: u32,
+    blocks: Option<u32>,
+) -> bool
     ensures { result ≡ tested map.now catalogue.now (length scratch.old) n blocks }
 {
-    if SCRATCH < scratch.len() {
+    let Some(blocks) = blocks else {
         return false;
-    }
+    };
     if tally_entries(catalogue, n, blocks) != Some(0) {
         return false;
     }
     test_windows(map, catalogue, scratch, n)
 }
 
-// Whether a map and its entries are sound, where the entries must make so many blocks: n less the free count. The scratch is
-// all zeros afterwards.
+// Whether a map and its entries are sound, where the entries must make so many blocks: n less the free count, or None if that
+// is more than n, and then they are not. The scratch is all zeros afterwards.
 pub fn test_sound(
     map: &[u64],
     catalogue: &[Entry],
     scratch: &mut [u64],
     n: u32,
-    blocks: u32,
+    blocks: Option<u32>,
 ) -> bool
     ensures { (result ≡ tested map.now catalogue.now (length scratch.old) n blocks)
         × (scratch.new ≡ replicate (length scratch.old) 0) }

@@ -1,6 +1,6 @@
 -- `closing::nearest`: a turn looks at the next entry.
 -- Assumes nothing.
-use Rattle.std.proofs.Common.{◌<◌, get_or, sym, ◌∙◌, arith, rules}
+use Rattle.std.proofs.Common.{get_or, sym, ◌∙◌, arith, rules}
 use Rattle.catalogue.specs.Entries.{zeros}
 use Rattle.closing.specs.Rounds.{found_of}
 use Rattle.closing.proofs.Rounded.{end, no_extent, has_moved, is_behind, is_first, takes, passes}
@@ -21,13 +21,12 @@ loop-sheet-preserved c =
     let e = get_or a.catalogue.now i zeros in
     let l = c.loop-sheet.invariant in
     let t = found_of a.catalogue.now c.loop-sheet.nearest in
-    let small : e.start < 4294967296 = omega arith in
-    let take = takes a.catalogue.now a.at i t b c.loop-sheet-test.true l.2 small in
-    let pass = passes a.catalogue.now a.at i t b c.loop-sheet-test.true l.2 small in
+    let take = takes a.catalogue.now a.at i t b c.loop-sheet-test.true l.2 in
+    let pass = passes a.catalogue.now a.at i t b c.loop-sheet-test.true l.2 in
     elim c.if-entry-ge1.branch [
       | then-entry-ge1+then-entry-at+then-start-before w ↦
           rw (w.nearest-is, w.before-is)
-          (take (is_first a.at b e (omega arith) (omega arith) (omega arith)) ∙ l.0, omega arith, c.from-start.ensures)
+          (take (is_first a.at b e (omega arith) (omega arith) (omega arith)) ∙ l.0, omega arith, cc)
       | else-entry-ge1 w ↦
           rw (w.nearest-is, w.before-is) (
             elim w.else-entry-ge1.branch [

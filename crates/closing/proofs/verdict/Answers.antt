@@ -1,9 +1,9 @@
 -- `verdict` meets its contract, row by row.
 -- Assumes nothing.
-use Rattle.std.proofs.Common.{sym, ◌∙◌, arith}
+use Rattle.std.proofs.Common.{sym, ◌∙◌}
 use Rattle.roles.specs.Roles as names
 use Rattle.roles.specs.Roles.{turned_away}
-use Rattle.closing.proofs.Closes.{close_fits_to, told_21, told-1, told-4, told-0, whole_tested}
+use Rattle.closing.proofs.Closes.{told_21, told-1, told-4, told-0, whole_tested}
 use Rattle.closing.proofs.verdict.Goals as goal
 
 pub returns-then-turned_away : goal.returns-then-turned_away
@@ -18,11 +18,6 @@ returns-then-not-close_fits c =
     told-1 (turned_away a.role names.close) a.n a.free a.fits a.map.now a.catalogue.now a.card.now a.scratch.now
     (sym c.turned_away.ensures ∙ c.if-turned_away.false) (sym c.close_fits.ensures ∙ c.if-not-close_fits.true)
 
-pub overflow_sub-n : goal.overflow_sub-n
-overflow_sub-n c =
-    let l = close_fits_to _ _ _ _ _ _ _ (sym c.close_fits.ensures ∙ c.if-not-close_fits.false) in
-    omega (arith, l.saved.limits.spare)
-
 pub returns-then-not-test_sound : goal.returns-then-not-test_sound
 returns-then-not-test_sound c =
     let a = c.args in
@@ -30,8 +25,8 @@ returns-then-not-test_sound c =
     let t = sym c.turned_away.ensures ∙ c.if-turned_away.false in
     let f = sym c.close_fits.ensures ∙ c.if-not-close_fits.false in
     told-4 turned a.n a.free a.fits a.map.now a.catalogue.now a.card.now a.scratch.now t f
-    (sym (whole_tested turned a.n a.free a.fits a.map.now a.catalogue.now a.card.now a.scratch.now t f)
-    ∙ sym c.test_sound.ensures.0 ∙ c.if-not-test_sound.true)
+    (sym (whole_tested turned a.n a.free a.fits a.map.now a.catalogue.now a.card.now a.scratch.now t f _
+    c.checked_sub.ensures) ∙ sym c.test_sound.ensures.0 ∙ c.if-not-test_sound.true)
 
 pub returns : goal.returns
 returns c =
@@ -40,5 +35,5 @@ returns c =
     let t = sym c.turned_away.ensures ∙ c.if-turned_away.false in
     let f = sym c.close_fits.ensures ∙ c.if-not-close_fits.false in
     told-0 turned a.n a.free a.fits a.map.now a.catalogue.now a.card.now a.scratch.now t f
-    (sym (whole_tested turned a.n a.free a.fits a.map.now a.catalogue.now a.card.now a.scratch.now t f)
-    ∙ sym c.test_sound.ensures.0 ∙ c.if-not-test_sound.false)
+    (sym (whole_tested turned a.n a.free a.fits a.map.now a.catalogue.now a.card.now a.scratch.now t f _
+    c.checked_sub.ensures) ∙ sym c.test_sound.ensures.0 ∙ c.if-not-test_sound.false)

@@ -1,6 +1,6 @@
 -- `content_holds` meets its contract.
 -- Assumes nothing.
-use Rattle.std.proofs.Common.{◌≡◌, ◌∙◌, sym, ap, ◌&&◌, true, false, Bool, List, ℕ, arith, length}
+use Rattle.std.proofs.Common.{◌≡◌, ◌∙◌, refl, sym, ap, ◌&&◌, true, false, Bool, List, ℕ, arith, length}
 use Rattle.image.specs.Image.{state_in, filled, blocks_in, sheets_in, entries_in, map_in}
 use Rattle.image_soundness.specs.Sound.{sound}
 use Rattle.image_soundness.proofs.Tested.{tested_unlike, tested_windows}
@@ -35,8 +35,8 @@ returns-then-ne c =
     let pre = c.requires in
     let h = head_to _ _ _ _ pre.3 in
     unsound a.image.now _ (content_sound a.image.now a.n a.free a.c pre.0 pre.1 pre.2 h.shape (length a.scratch.now) pre.4)
-    (tested_unlike (map_in a.image.now a.n a.c) (entries_in a.image.now a.c) (length a.scratch.now) a.n _
-    (omega (arith, pre.4)) _ c.tally_in.ensures _ c.ne.ensures c.if-ne.true)
+    (tested_unlike (map_in a.image.now a.n a.c) (entries_in a.image.now a.c) (length a.scratch.now) a.n _ _
+    refl _ c.tally_in.ensures _ c.ne.ensures c.if-ne.true)
 
 pub returns-then-not-test_windows : goal.returns-then-not-test_windows
 returns-then-not-test_windows c =
@@ -45,8 +45,8 @@ returns-then-not-test_windows c =
     let h = head_to _ _ _ _ pre.3 in
     unsound a.image.now _ (content_sound a.image.now a.n a.free a.c pre.0 pre.1 pre.2 h.shape (length a.scratch.now) pre.4)
     (sym c.if-not-test_windows.true ∙ c.test_windows.ensures
-    ∙ tested_windows (map_in a.image.now a.n a.c) (entries_in a.image.now a.c) (length a.scratch.now) a.n _
-    (omega (arith, pre.4)) _ c.tally_in.ensures _ c.ne.ensures c.if-ne.false)
+    ∙ tested_windows (map_in a.image.now a.n a.c) (entries_in a.image.now a.c) (length a.scratch.now) a.n _ _
+    refl _ c.tally_in.ensures _ c.ne.ensures c.if-ne.false)
 
 pub overflow_mul-c : goal.overflow_mul-c
 overflow_mul-c c = let h = head_to _ _ _ _ c.requires.3 in omega (arith, h.count.few)
@@ -67,6 +67,6 @@ returns c =
     let h = head_to _ _ _ _ pre.3 in
     by_fill a.image.now _ (content_sound a.image.now a.n a.free a.c pre.0 pre.1 pre.2 h.shape (length a.scratch.now) pre.4) _
     (sym c.if-not-test_windows.false ∙ c.test_windows.ensures
-    ∙ tested_windows (map_in a.image.now a.n a.c) (entries_in a.image.now a.c) (length a.scratch.now) a.n _
-    (omega (arith, pre.4)) _ c.tally_in.ensures _ c.ne.ensures c.if-ne.false)
+    ∙ tested_windows (map_in a.image.now a.n a.c) (entries_in a.image.now a.c) (length a.scratch.now) a.n _ _
+    refl _ c.tally_in.ensures _ c.ne.ensures c.if-ne.false)
     (c.zeros_from.ensures ∙ content_filled a.image.now a.n a.free a.c pre.0 pre.1 pre.2 _ c.words_for.ensures)

@@ -12,7 +12,7 @@ returns-then-stand c =
     let r = c.release_in-stand.ensures in
     c.is_fresh.ensures ∙ first_holds _ _ c.if-stand.true
     ∙ window_told (map_in a.image.now a.n a.c) (entries_in a.image.now a.c) (length a.scratch.now) a.n a.lo _ _ _
-    c.fill_in.ensures r.0 r.1
+    c.requires.4 c.fill_in.ensures r.0 r.1
 
 pub returns-else-stand : goal.returns-else-stand
 returns-else-stand c =
@@ -20,4 +20,4 @@ returns-else-stand c =
     let r = c.release_in-stand.ensures in
     c.if-stand.false ∙ first_fails _ _ c.if-stand.false
     ∙ window_told (map_in a.image.now a.n a.c) (entries_in a.image.now a.c) (length a.scratch.now) a.n a.lo _ _ _
-    c.fill_in.ensures r.0 r.1
+    c.requires.4 c.fill_in.ensures r.0 r.1

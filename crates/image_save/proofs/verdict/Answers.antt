@@ -19,18 +19,14 @@ returns-then-not-save_fits c =
     save-row-1 (turned_away a.role names.save) a.n a.free a.map.now a.catalogue.now a.scratch.now a.image.now
     (sym c.turned_away.ensures ∙ c.if-turned_away.false) (sym c.save_fits.ensures ∙ c.if-not-save_fits.true)
 
-pub overflow_sub-n : goal.overflow_sub-n
-overflow_sub-n c =
-    let s = save_fits_to _ _ _ _ _ (sym c.save_fits.ensures ∙ c.if-not-save_fits.false) in omega (arith, s.limits.spare)
-
 pub returns-then-not-test_sound : goal.returns-then-not-test_sound
 returns-then-not-test_sound c =
     let a = c.args in
     let t = sym c.turned_away.ensures ∙ c.if-turned_away.false in
     let f = sym c.save_fits.ensures ∙ c.if-not-save_fits.false in
     save-row-4 (turned_away a.role names.save) a.n a.free a.map.now a.catalogue.now a.scratch.now a.image.now t f
-    (sym (save_tested (turned_away a.role names.save) a.n a.free a.map.now a.catalogue.now a.scratch.now a.image.now t f)
-    ∙ sym c.test_sound.ensures.0 ∙ c.if-not-test_sound.true)
+    (sym (save_tested (turned_away a.role names.save) a.n a.free a.map.now a.catalogue.now a.scratch.now a.image.now t f _
+    c.checked_sub.ensures) ∙ sym c.test_sound.ensures.0 ∙ c.if-not-test_sound.true)
 
 pub frames_for-requires : goal.frames_for-requires
 frames_for-requires c =
@@ -48,8 +44,9 @@ returns-then-image-frames_for c =
     let t = sym c.turned_away.ensures ∙ c.if-turned_away.false in
     let f = sym c.save_fits.ensures ∙ c.if-not-save_fits.false in
     save-row-12 (turned_away a.role names.save) a.n a.free a.map.now a.catalogue.now a.scratch.now a.image.now t f
-    (sym (save_tested (turned_away a.role names.save) a.n a.free a.map.now a.catalogue.now a.scratch.now a.image.now t f)
-    ∙ sym c.test_sound.ensures.0 ∙ c.if-not-test_sound.false) _ c.frames_for.ensures c.if-image-frames_for.true
+    (sym (save_tested (turned_away a.role names.save) a.n a.free a.map.now a.catalogue.now a.scratch.now a.image.now t f _
+    c.checked_sub.ensures) ∙ sym c.test_sound.ensures.0 ∙ c.if-not-test_sound.false)
+    _ c.frames_for.ensures c.if-image-frames_for.true
 
 pub returns : goal.returns
 returns c =
@@ -57,5 +54,6 @@ returns c =
     let t = sym c.turned_away.ensures ∙ c.if-turned_away.false in
     let f = sym c.save_fits.ensures ∙ c.if-not-save_fits.false in
     save-row-none (turned_away a.role names.save) a.n a.free a.map.now a.catalogue.now a.scratch.now a.image.now t f
-    (sym (save_tested (turned_away a.role names.save) a.n a.free a.map.now a.catalogue.now a.scratch.now a.image.now t f)
-    ∙ sym c.test_sound.ensures.0 ∙ c.if-not-test_sound.false) _ c.frames_for.ensures c.if-image-frames_for.false
+    (sym (save_tested (turned_away a.role names.save) a.n a.free a.map.now a.catalogue.now a.scratch.now a.image.now t f _
+    c.checked_sub.ensures) ∙ sym c.test_sound.ensures.0 ∙ c.if-not-test_sound.false)
+    _ c.frames_for.ensures c.if-image-frames_for.false

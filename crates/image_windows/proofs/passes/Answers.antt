@@ -1,20 +1,22 @@
 -- `passes` meets its contract, test by test.
 -- Assumes nothing.
 use Rattle.std.proofs.Common.{◌∙◌, length}
-use Rattle.image_soundness.proofs.Tested.{tested_long, tested_unlike, tested_windows}
+use Rattle.image_soundness.proofs.Tested.{tested_none, tested_unlike, tested_windows}
 use Rattle.image_windows.proofs.passes.Goals as goal
 
-pub returns-then-scratch-gt-SCRATCH : goal.returns-then-scratch-gt-SCRATCH
-returns-then-scratch-gt-SCRATCH c = tested_long _ _ _ _ _ c.if-scratch-gt-SCRATCH.true
+pub returns-in_default : goal.returns-in_default
+returns-in_default c =
+    let a = c.args in
+    tested_none a.map.now a.catalogue.now (length a.scratch.now) a.n a.blocks c.in_default.is
 
 pub returns-then-ne : goal.returns-then-ne
 returns-then-ne c =
     let a = c.args in
-    tested_unlike a.map.now a.catalogue.now (length a.scratch.now) a.n a.blocks c.if-scratch-gt-SCRATCH.false _
-    c.tally_entries.ensures _ c.ne.ensures c.if-ne.true
+    tested_unlike a.map.now a.catalogue.now (length a.scratch.now) a.n a.blocks _ c.in-Some.is _ c.tally_entries.ensures _
+    c.ne.ensures c.if-ne.true
 
 pub returns : goal.returns
 returns c =
     let a = c.args in
-    c.test_windows.ensures ∙ tested_windows a.map.now a.catalogue.now (length a.scratch.now) a.n a.blocks
-    c.if-scratch-gt-SCRATCH.false _ c.tally_entries.ensures _ c.ne.ensures c.if-ne.false
+    c.test_windows.ensures ∙ tested_windows a.map.now a.catalogue.now (length a.scratch.now) a.n a.blocks _ c.in-Some.is _
+    c.tally_entries.ensures _ c.ne.ensures c.if-ne.false
