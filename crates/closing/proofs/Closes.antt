@@ -1,7 +1,7 @@
 -- What a closing answers and leaves, by its rows.
 -- Assumes nothing.
 use Rattle.std.proofs.Common.{◌≡◌, ℕ, ◌-◌, ◌*◌, ◌≤◌, Bool, true, false, cond, not, ◌&&◌, eqb, List, length, replicate, sym}
-use Rattle.std.proofs.Common.{refl, Option, SomeIff}
+use Rattle.std.proofs.Common.{refl, Option, SomeIff, Result, Ok, Err, MatchResult}
 use Rattle.std.proofs.Common.{ap, ◌∙◌, ap₂, arith, eqb-true}
 use Rattle.laws.proofs.Bools.{and_left, and_right}
 use Rattle.catalogue.specs.Entries.{held}
@@ -11,7 +11,7 @@ use Rattle.catalogue_standings.proofs.Rows.{never_says}
 use Rattle.image_soundness.specs.Sound.{State, sound}
 use Rattle.image_soundness.specs.Windows.{tested}
 use Rattle.image.proofs.Refused.{not_zero}
-use Rattle.catalogue_standings.specs.Refusals.{number}
+use Rattle.catalogue_standings.specs.Refusals.{number, number_in}
 use Rattle.catalogue_standings.specs.declared.Refusal.{Refusal}
 use Rattle.image_soundness.proofs.Tested.{subtracted_sound}
 use Rattle.image_soundness.proofs.WhenSound.{sound_to}
@@ -19,7 +19,7 @@ use Rattle.image.specs.Table.{save_fits}
 use Rattle.image.proofs.Fitting.{SaveFits, save_fits_to}
 use Rattle.closing.specs.Closed.{first_taken, closed_entries, closed_card, closed_map}
 use Rattle.closing.specs.Table.{close_fits, close_rows, close_verdict}
-use Rattle.closing.specs.Effects.{close_number, close_map, close_entries, close_card, close_scratch}
+use Rattle.closing.specs.Effects.{close_number, close_map, close_entries, close_card, close_scratch, Closes}
 use Rattle.closing.specs.Rounds.{rounds_at, rounds_entries, rounds_card}
 use Rattle.closing.proofs.Closing.{Made, rounds_close}
 use Rattle.closing.proofs.Kept.{held_fits}
@@ -188,3 +188,20 @@ module _ (turned : Bool) (n spare : ℕ) (fits : Bool) (map : List ℕ) (entries
           ee ∙ made.entries ∙ ap (λ (w : Verdict). settle w (closed_entries entries) (λ number. entries)) v,
           ec ∙ made.cards ∙ ap (λ (w : Verdict). settle w (closed_card entries card) (λ number. card)) v,
         )
+
+  -- what a closing answers, with the scratch cleared: done, what the rounds made, and refused, what was lent
+  pub record AllRounds (map' : List ℕ) (entries' : List Entry) (card' : List ℕ) : Type 0 where
+    pub maps : map' ≡ first_taken (rounds_at entries card (length entries) 0) n (length map)
+    pub sheets : entries' ≡ rounds_entries entries card (length entries) 0
+    pub cards : card' ≡ rounds_card entries card (length entries) 0
+
+  pub closes : (r : Result (Unit {0}) Refusal) (map' : List ℕ) (entries' : List Entry) (card' left : List ℕ)
+      → number_in r ≡ told → left ≡ replicate (length scratch) 0
+      → MatchResult r (λ _. AllRounds map' entries' card') (λ _. (map' ≡ map) × (entries' ≡ entries) × (card' ≡ card))
+      → Closes turned n spare fits map entries card scratch (number_in r) map' entries' card' left
+  closes (Ok done) map' entries' card' left e z made =
+      let r = closed e _ map' entries' card' refl made.maps made.sheets made.cards in
+      (e, r.0, r.1, r.2, cleared left z)
+  closes (Err why) map' entries' card' left e z same =
+      let r = refused_close why e in
+      (e, same.0 ∙ r.0, same.1 ∙ r.1, same.2 ∙ r.2, cleared left z)

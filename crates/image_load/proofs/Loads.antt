@@ -7,16 +7,18 @@ use Prim.Native.Nat.{ℕ, zero, suc, ◌+◌, ◌*◌, ◌≤◌, ◌<◌}
 use native.Mathlib.Omega.{arith}
 use lib.ListN.{length, get_or, replicate}
 use lib.Seq.{ext_get_or}
-use Rattle.catalogue_standings.specs.Refusals.{number}
+use Rattle.std.specs.Prelude.{Result, Ok, Err, MatchResult}
+use Rattle.catalogue_standings.specs.Refusals.{number, number_in}
 use Rattle.catalogue_standings.specs.Rows.{Verdict, accepted, refused, settle, row_number}
 use Rattle.catalogue_standings.specs.declared.Refusal.{Refusal}
 use Rattle.catalogue.specs.Entries.{zeros}
 use Rattle.catalogue.specs.declared.Entry.{Entry}
 use Rattle.image_frames.specs.Frames.{body_of}
 use Rattle.image_frames.specs.Numbers.{words_at}
-use Rattle.image.specs.Effects.{Answered, load_result, load_map, load_entries, load_scratch}
+use Rattle.image.specs.Effects.{Answered, load_result, load_map, load_entries, load_scratch, Loads}
 use Rattle.image.specs.Image.{blocks_in, free_count_in, sheets_in, entry_from, entries_from, entries_in, state_in, map_in}
 use Rattle.image.specs.Table.{load_verdict}
+use Rattle.image.specs.declared.Loaded.{Loaded}
 use Rattle.image.proofs.Fitting.{head_to, load_fits_to}
 use Rattle.image.proofs.Refused.{not_zero}
 use Rattle.image.proofs.Verdicts.{load_accepted, accepted_to}
@@ -106,3 +108,26 @@ module _ (turned : Bool) (image map : List ℕ) (entries : List Entry) (scratch 
         ∙ sym (entries_at (body_of image) 12 (length entries) j (omega arith)))
         ∙ ap (entries_from (body_of image) 12) l.entries
         ∙ ap (λ (v : Verdict). settle v (state_in image).entries (λ k. entries)) (sym is_accepted)
+
+  -- what was read of the image: n and the free count, the words and the entries
+  pub record Read (loaded : Loaded) (words : List ℕ) (now : List Entry) : Type 0 where
+    pub blocks : loaded.blocks ≡ blocks_in image
+    pub free : loaded.free ≡ free_count_in image
+    pub map_words : words ≡ words_at (body_of image) (4 * (3 + 3 * length entries)) (length map)
+    pub long : length now ≡ length entries
+    pub listed : (j : ℕ) → j < length entries → get_or now j zeros ≡ entry_from (body_of image) (4 * (3 + 3 * j))
+
+  -- what a load answers, with the scratch cleared: done, what was read is the state of the image, and refused, what was lent
+  pub loads : (r : Result Loaded Refusal) (words : List ℕ) (now : List Entry) (left : List ℕ)
+      → number_in r ≡ row_number verdict → left ≡ replicate (length scratch) 0
+      → MatchResult r (λ loaded. Read loaded words now) (λ _. (words ≡ map) × (now ≡ entries))
+      → Loads turned image map entries scratch r words now left
+  loads (Ok l) words now left e z read = (
+    loaded_answer e l.blocks l.free read.blocks read.free,
+    loaded_map e words read.map_words,
+    loaded_entries e now (length entries) read.long (omega arith) read.listed,
+    cleared left z,
+  )
+  loads (Err why) words now left e z same =
+      let r = refused_load why e in
+      (r.0, same.0 ∙ r.1, same.1 ∙ r.2, cleared left z)

@@ -8,6 +8,7 @@ use native.Mathlib.Numerals.{add-one}
 use native.Mathlib.Omega.{arith}
 use lib.ListN.{length, get_or, take, replicate, length-append, length-replicate}
 use lib.Seq.{take-suc, take_all, length-take-le}
+use Rattle.std.specs.Prelude.{Result, Ok, Err, MatchResult}
 use Rattle.map_blocks.specs.Maps.{words_for}
 use Rattle.block_bytes.specs.Numbers.{bytes4}
 use Rattle.block_bytes.proofs.Numbers.{bytes4_length}
@@ -20,10 +21,10 @@ use Rattle.image_frames.proofs.Bodies.{body_length}
 use Rattle.block_bytes.proofs.Replaced.{replaced_all, replaced_more}
 use Rattle.image_frames.proofs.Stored.{Written, written_none, written_number, word_bytes_length}
 use Rattle.image_soundness.specs.Sound.{State}
-use Rattle.catalogue_standings.specs.Refusals.{number}
+use Rattle.catalogue_standings.specs.Refusals.{number, number_in}
 use Rattle.catalogue_standings.specs.Rows.{Verdict, accepted, refused, settle, row_number}
 use Rattle.catalogue_standings.specs.declared.Refusal.{Refusal}
-use Rattle.image.specs.Effects.{save_number, save_scratch, save_image}
+use Rattle.image.specs.Effects.{save_number, save_scratch, save_image, Saves}
 use Rattle.image.specs.Table.{save_verdict}
 use Rattle.image.proofs.Fitting.{save_fits_to}
 use Rattle.image.proofs.Refused.{not_zero}
@@ -223,3 +224,11 @@ module _ (turned : Bool) (n spare : ℕ) (map : List ℕ) (entries : List Entry)
     pub saved_image : (last : List ℕ) → last ≡ image_of state → last ≡ save_image turned n spare map entries scratch image
     unfolding save_image
     saved_image last e = e ∙ sym (ap (λ (v : Verdict). settle v (image_of state) (λ number. image)) is_accepted)
+
+  -- what a save answers, with the scratch cleared: done, the image is that of the state, and refused, what was lent
+  pub saves : (r : Result (Unit {0}) Refusal) (left last : List ℕ)
+      → number_in r ≡ save_number turned n spare map entries scratch image → left ≡ replicate (length scratch) 0
+      → MatchResult r (λ _. last ≡ image_of state) (λ _. last ≡ image)
+      → Saves turned n spare map entries scratch image r left last
+  saves (Ok done) left last e z i = (e, cleared left z, saved_image e last i)
+  saves (Err why) left last e z i = (e, cleared left z, i ∙ refused_image why e)
