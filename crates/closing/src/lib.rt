@@ -4,7 +4,7 @@
 // taken.
 #![tactic(auto)]
 
-ghost use Rattle.std.specs.Prelude.{◌≡◌, ◌*◌, ◌<◌, ◌≤◌, length, IfSome};
+ghost use Rattle.std.specs.Prelude.{◌≡◌, ◌*◌, ◌<◌, ◌≤◌, length, IfSome, MatchOption};
 ghost use Rattle.closing.specs.Closed.{first_taken};
 ghost use Rattle.catalogue_standings.specs.Refusals.{number_in};
 ghost use Rattle.roles.specs.Roles as names;
@@ -58,14 +58,16 @@ fn move_extent(card: &mut [u8], at: u32, extent: Entry)
     move_blocks(card, at, extent.start, extent.length);
 }
 
-// One round. Gives where the extents that have moved end.
-fn close_next(catalogue: &mut [Entry], card: &mut [u8], at: u32) -> u32
-    ensures { (result ≡ round_at catalogue.old card.old at)
-        × (catalogue.new ≡ round_entries catalogue.old card.old at)
-        × (card.new ≡ round_card catalogue.old card.old at) }
+// One round. Gives where the extents that have moved end, or None where none was left to move: such a round changes nothing.
+fn close_next(catalogue: &mut [Entry], card: &mut [u8], at: u32) -> Option<u32>
+    ensures { MatchOption result
+        ((at ≡ round_at catalogue.old card.old at) × (catalogue.old ≡ round_entries catalogue.old card.old at)
+        × (card.old ≡ round_card catalogue.old card.old at) × (catalogue.new ≡ catalogue.old) × (card.new ≡ card.old))
+        (λ end. (end ≡ round_at catalogue.old card.old at) × (catalogue.new ≡ round_entries catalogue.old card.old at)
+        × (card.new ≡ round_card catalogue.old card.old at)) }
 {
     let Some(sheet) = nearest(&*catalogue, at) else {
-        return at;
+        return None;
     };
     let extent = catalogue[sheet];
     move_extent(card, at, extent);
@@ -73,10 +75,11 @@ fn close_next(catalogue: &mut [Entry], card: &mut [u8], at: u32) -> u32
         start: at,
         ..extent
     };
-    at.wrapping_add(extent.length)
+    Some(at.wrapping_add(extent.length))
 }
 
-// All rounds, as many as there are entries. Gives how many blocks all extents have.
+// All rounds, as many as there are entries; behind one that changed nothing no other does. Gives how many blocks all extents
+// have.
 fn close_rounds(catalogue: &mut [Entry], card: &mut [u8]) -> u32
     ensures { (result ≡ rounds_at catalogue.old card.old (length catalogue.old) 0)
         × (catalogue.new ≡ rounds_entries catalogue.old card.old (length catalogue.old) 0)
@@ -84,7 +87,10 @@ fn close_rounds(catalogue: &mut [Entry], card: &mut [u8]) -> u32
 {
     let mut at = 0;
     for _ in 0..catalogue.len() {
-        at = close_next(catalogue, card, at);
+        let Some(end) = close_next(catalogue, card, at) else {
+            break;
+        };
+        at = end;
     }
     at
 }
