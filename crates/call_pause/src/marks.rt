@@ -64,8 +64,8 @@ impl Change {
         }
     }
 
-    // The call: what the rows that every call begins with say, then whether the standing is admitted, and then the effect. It is
-    // inline, so that each change tests only what it asks.
+    // The call: what the rows that every call begins with say, then whether the standing is admitted, and then the effect. It
+    // is inline, so that each change tests only what it asks.
     #[inline(always)]
     pub fn make(self, asked: Asked, map: &[u64]) -> Out
         ensures { let q = lent_for asked (name_of self) false [] map.now no_card in
