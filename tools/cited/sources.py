@@ -8,8 +8,9 @@ import sys
 CODE = ('.rt', '.rs', '.c', '.h')
 MARKED = ('.py', '.toml', '.txt')  # a comment begins with a number sign
 
-# The port to a newer kit, and the rewriting in its forms: what was renamed, moved and deleted, by the names before and after.
-OF_BEFORE = ('docs/PORT.md', 'docs/DESIGN-PASS.md', 'docs/DESIGN-PASS-02.md')
+# The port to a newer kit, the rewriting in its forms and the look back at it: what was renamed, moved and deleted, by the names
+# before and after.
+OF_BEFORE = ('docs/PORT.md', 'docs/DESIGN-PASS.md', 'docs/DESIGN-PASS-02.md', 'docs/LOOK-BACK.md')
 
 C_COMMENT = re.compile(r'/\*.*?\*/|//[^\n]*', re.S)
 DASHES = re.compile(r'(?m)(^|\s)--(\s[^\n]*)?$')

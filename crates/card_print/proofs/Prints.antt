@@ -167,7 +167,8 @@ module _ (shape : Shape) (role : ℕ) (image map : List ℕ) (entries : List Ent
         → Prints shape role image map entries scratch text r map' entries' scratch' text'
     prints counts r text' card refusal = go (eqb loaded.number 0) refl
       where
-        go : (t : Bool) → eqb loaded.number 0 ≡ t → Prints shape role image map entries scratch text r map' entries' scratch' text'
+        go : (t : Bool) → eqb loaded.number 0 ≡ t
+            → Prints shape role image map entries scratch text r map' entries' scratch' text'
         go true e =
             let z : loaded.number ≡ 0 = eqb-true loaded.number 0 e in
             let w = card z in card_ends counts r text' z w.0 w.1
