@@ -64,8 +64,8 @@ fn fill_in(image: &[u8], n: u32, c: usize, lo: u32, scratch: &mut [u64])
     read_words(&mut scratch[..w], image, 3 + 3 * c + 2 * a);
 }
 
-// Releases the parts of extents whose entries stand one behind the other in a frame, from byte `at` of the image on. This is the
-// loop that a load goes through most: every entry, once for each window. A part that is not taken does not end it.
+// Releases the parts of extents whose entries stand one behind the other in a frame, from byte `at` of the image on. This is
+// the loop that a load goes through most: every entry, once for each window. A part that is not taken does not end it.
 fn release_together(lo: u32, scratch: &mut [u64], image: &[u8], at: usize, count: usize) -> bool
     requires { at + 12 * count ≤ length image.now }
     ensures { (result ≡ parts_stand (entries_from image.now at count) lo scratch.old)
