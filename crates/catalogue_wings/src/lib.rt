@@ -17,8 +17,8 @@ fn lengths(entries: &[Entry]) -> u64
     ensures { result ≡ sum_by (λ e. e.length) entries.now }
 {
     let mut sum = 0;
-    for i in 0..entries.len() {
-        sum += u64::from(entries[i].length);
+    for entry in entries {
+        sum += u64::from(entry.length);
     }
     sum
 }

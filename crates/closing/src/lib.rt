@@ -24,7 +24,7 @@ use map_blocks::run::{TAKEN, fresh, mark};
 use roles::Call;
 
 // An extent that starts here is never found. No card has this block.
-const BEHIND: u32 = 4294967295;
+const BEHIND: u64 = 4294967295;
 
 // Of the extents that start at or after `at`, where those that have moved end, the sheet of the one with the least start. Its
 // start is kept beside it, since reading it from the entry that is found takes 16 % more instructions; and the test stands in
@@ -36,7 +36,7 @@ fn nearest(catalogue: &[Entry], at: u32) -> Option<usize>
     let mut nearest = None;
     let mut before = BEHIND;
     for (sheet, entry) in catalogue.iter().enumerate() {
-        let start = entry.start;
+        let start = u64::from(entry.start);
         if entry.length >= 1 && entry.start >= at && start < before {
             nearest = Some(sheet);
             before = start;

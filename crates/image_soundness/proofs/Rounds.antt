@@ -8,7 +8,6 @@ use Prim.Native.Nat.{ℕ, zero, suc, ◌+◌, ◌-◌, ◌≤◌, ◌<◌}
 use native.Mathlib.Omega.{arith}
 use native.Mathlib.Numerals.{add-one}
 use lib.ListN.{length, get_or, set, drop}
-use Rattle.std.proofs.Math.Bool.{and_assoc, and-true}
 use Rattle.std.proofs.lemmas.List.{drop_all}
 use Rattle.catalogue.specs.Entries.{zeros}
 use lib.Seq.{drop-cons, ext_get_or, get_or-set_same, get_or-set_other}
@@ -42,22 +41,18 @@ left_more e es lo scratch = refl
 module _ (es : List Entry) (i lo : ℕ) (scratch : List ℕ) where
   module _ (r : Bool) (next : List ℕ) (h : i < length es) (er : r ≡ part_stands lo scratch (get_or es i zeros))
       (en : next ≡ scratch_after lo scratch (get_or es i zeros)) where
-    step : (r && parts_stand (drop (i + 1) es) lo next) ≡ parts_stand (drop i es) lo scratch
-    step =
+    pub stand_step : (r && parts_stand (drop (i + 1) es) lo next) ≡ parts_stand (drop i es) lo scratch
+    stand_step =
         ap₂ (λ (b : Bool) (l : List ℕ). b && parts_stand (drop (i + 1) es) lo l) er en
         ∙ rw (drop-cons es i zeros h, add-one) (sym (stand_more (get_or es i zeros) _ lo scratch))
-
-    pub stand_step : (so : Bool) → ((so && r) && parts_stand (drop (i + 1) es) lo next)
-        ≡ (so && parts_stand (drop i es) lo scratch)
-    stand_step so = and_assoc so r _ ∙ ap (λ (b : Bool). so && b) step
 
     pub left_step : scratch_over (drop (i + 1) es) lo next ≡ scratch_over (drop i es) lo scratch
     left_step =
         ap (scratch_over (drop (i + 1) es) lo) en
         ∙ rw (drop-cons es i zeros h, add-one) (sym (left_more (get_or es i zeros) _ lo scratch))
 
-  pub stand_end : (so : Bool) → length es ≤ i → so ≡ (so && parts_stand (drop i es) lo scratch)
-  stand_end so h = rw (drop_all i es h) (sym (ap (λ (b : Bool). so && b) (stand_none lo scratch) ∙ and-true so))
+  pub stand_end : length es ≤ i → true ≡ parts_stand (drop i es) lo scratch
+  stand_end h = rw (drop_all i es h) (sym (stand_none lo scratch))
 
   pub left_end : length es ≤ i → scratch ≡ scratch_over (drop i es) lo scratch
   left_end h = rw (drop_all i es h) (sym (left_none lo scratch))

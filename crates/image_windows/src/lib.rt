@@ -72,17 +72,17 @@ pub fn release_near(lo: u32, scratch: &mut [u64], entry: Entry) -> bool
     !may_have_part(lo, entry) || release_part(lo, scratch, entry)
 }
 
-// Releases the parts of all extents, and gives false if one is not taken. It does not end the loop: that would be tested for
-// every entry.
+// Releases the parts of all extents, up to one that is not taken. An extent without a part leaves the loop nothing to keep.
 fn release_parts(catalogue: &[Entry], lo: u32, scratch: &mut [u64]) -> bool
     ensures { (result ≡ parts_stand catalogue.now lo scratch.old)
-        × (scratch.new ≡ scratch_over catalogue.now lo scratch.old) }
+        × (result ≡ true → scratch.new ≡ scratch_over catalogue.now lo scratch.old) }
 {
-    let mut stand = true;
     for entry in catalogue {
-        stand &= release_near(lo, scratch, *entry);
+        if !release_near(lo, scratch, *entry) {
+            return false;
+        }
     }
-    stand
+    true
 }
 
 // Whether the window from block lo on is as it should be. With a scratch of over 64 words it is not.

@@ -6,5 +6,6 @@ use Rattle.std.specs.List.{sum_by}
 use Rattle.catalogue.specs.declared.Entry.{Entry}
 use Rattle.catalogue_wings.proofs.lengths.Given as goal
 
-abbrev pub invariant-loop-i : goal.invariant-loop-i
-invariant-loop-i l = (l.sum ≡ sum_by (λ (e : Entry). e.length) (take l.i l.entries)) × (l.sum ≤ l.i * 4294967296)
+abbrev pub invariant-loop-entry : goal.invariant-loop-entry
+invariant-loop-entry l =
+    (l.sum ≡ sum_by (λ (e : Entry). e.length) (take l.entry-index l.entries)) × (l.sum ≤ l.entry-index * 4294967296)
