@@ -11,14 +11,17 @@ use catalogue::Entry;
 // The sheets of a wing.
 const SHEETS: u32 = 128;
 
-// The lengths of some entries together.
+// The lengths of some entries together. From the front, what is left of the slice in hand: a loop by index takes a quarter more
+// instructions, and std's `sum` hands over a reference in an Option.
 fn lengths(entries: &[Entry]) -> u64
     requires { length entries.now ≤ 128 }
     ensures { result ≡ sum_by (λ e. e.length) entries.now }
 {
     let mut sum = 0;
-    for entry in entries {
-        sum += u64::from(entry.length);
+    let mut rest = entries;
+    while !rest.is_empty() {
+        sum += u64::from(rest[0].length);
+        rest = &rest[1..];
     }
     sum
 }
