@@ -5,6 +5,7 @@ use mathlib.Core.Path.{◌≡◌, refl, sym, ap, ap₂, ◌∙◌}
 use mathlib.Core.Bool.{Bool, true, false, ◌&&◌, cond}
 use mathlib.Core.List.{List, [], ◌∷◌, ◌++◌}
 use Prim.Native.Nat.{ℕ, ◌-◌}
+use Rattle.std.proofs.Math.Bool.{and_assoc, and-true}
 use Rattle.std.specs.Prelude.{Some, None}
 use Rattle.std.specs.Option.{option_and_then}
 use Rattle.catalogue.specs.declared.Entry.{Entry}
@@ -12,7 +13,6 @@ use Rattle.image_soundness.specs.Windows.{countable, tally_after, tally_of, part
 use Rattle.image_soundness.specs.Windows.{scratch_over}
 use Rattle.image_soundness.proofs.Counted.{tally_none, tally_counts, tally_stops}
 use Rattle.image_soundness.proofs.Rounds.{stand_none, stand_more, left_none, left_more}
-use Rattle.image_soundness.proofs.Steps.{first_fails}
 
 -- counted
 module _ (n : ℕ) where
@@ -52,19 +52,15 @@ module _ (n : ℕ) where
         ap (λ (l : List Entry). tally_of l n left) split ∙ tally_split some rest left
         ∙ ap (option_and_then (λ rest'. tally_of rest n rest')) (sym h)
 
--- released, as long as each part is taken
+-- released, and whether each part so far was taken
 module _ (lo : ℕ) where
-  both_again : (a b c : Bool) → ((a && b) && c) ≡ (a && (b && c))
-  both_again true b c = refl
-  both_again false b c = refl
-
   parts_split : (xs ys : List Entry) (scratch : List ℕ) → parts_stand (xs ++ ys) lo scratch
       ≡ (parts_stand xs lo scratch && parts_stand ys lo (scratch_over xs lo scratch))
   unfolding parts_stand scratch_over
   parts_split [] ys scratch = refl
   parts_split (x ∷ xs) ys scratch =
       ap (λ (b : Bool). part_stands lo scratch x && b) (parts_split xs ys (scratch_after lo scratch x))
-      ∙ sym (both_again (part_stands lo scratch x) (parts_stand xs lo (scratch_after lo scratch x))
+      ∙ sym (and_assoc (part_stands lo scratch x) (parts_stand xs lo (scratch_after lo scratch x))
       (parts_stand ys lo (scratch_over xs lo (scratch_after lo scratch x))))
 
   scratch_split : (xs ys : List Entry) (scratch : List ℕ) → scratch_over (xs ++ ys) lo scratch
@@ -74,55 +70,45 @@ module _ (lo : ℕ) where
   scratch_split (x ∷ xs) ys scratch = scratch_split xs ys (scratch_after lo scratch x)
 
   -- what the entries left make of the scratch is what all of them make
-  pub record Left (all : List Entry) (first : List ℕ) (rest : List Entry) (scratch : List ℕ) : Type 0 where
-    pub stands : parts_stand rest lo scratch ≡ parts_stand all lo first
+  pub record Left (all : List Entry) (first : List ℕ) (rest : List Entry) (so : Bool) (scratch : List ℕ) : Type 0 where
+    pub stands : (so && parts_stand rest lo scratch) ≡ parts_stand all lo first
     pub over : scratch_over rest lo scratch ≡ scratch_over all lo first
 
   module _ (all : List Entry) (first : List ℕ) where
-    pub left_from : (rest : List Entry) → all ≡ rest → Left all first rest first
+    pub left_from : (rest : List Entry) → all ≡ rest → Left all first rest true first
     left_from rest e = record {
       stands = ap (λ (l : List Entry). parts_stand l lo first) (sym e);
       over = ap (λ (l : List Entry). scratch_over l lo first) (sym e);
     }
 
-    module _ (rest : List Entry) (scratch : List ℕ) (l : Left all first rest scratch) where
-      pub left_end : rest ≡ [] → (true ≡ parts_stand all lo first) × (true ≡ true → scratch ≡ scratch_over all lo first)
+    module _ (rest : List Entry) (so : Bool) (scratch : List ℕ) (l : Left all first rest so scratch) where
+      pub left_end : rest ≡ [] → (so ≡ parts_stand all lo first) × (scratch ≡ scratch_over all lo first)
       left_end e = (
-        sym (ap (λ (l : List Entry). parts_stand l lo scratch) e ∙ stand_none lo scratch) ∙ l.stands,
-        λ t. sym (ap (λ (l : List Entry). scratch_over l lo scratch) e ∙ left_none lo scratch) ∙ l.over,
+        sym (ap (λ (l : List Entry). so && parts_stand l lo scratch) e ∙ ap (λ (b : Bool). so && b) (stand_none lo scratch)
+            ∙ and-true so) ∙ l.stands,
+        sym (ap (λ (l : List Entry). scratch_over l lo scratch) e ∙ left_none lo scratch) ∙ l.over,
       )
 
       -- one more
-      module _ (e : Entry) (behind : List Entry) (r : Bool) (split : rest ≡ e ∷ behind)
-          (er : r ≡ part_stands lo scratch e) where
-        pub one_fails : r ≡ false → false ≡ parts_stand all lo first
-        one_fails f =
-            first_fails _ (parts_stand behind lo (scratch_after lo scratch e)) (sym er ∙ f)
-            ∙ sym (stand_more e behind lo scratch) ∙ ap (λ (l : List Entry). parts_stand l lo scratch) (sym split) ∙ l.stands
-
-        pub one_released : (next : List ℕ) → r ≡ true → next ≡ scratch_after lo scratch e → Left all first behind next
-        one_released next t en = record {
-          stands = ap₂ (λ (b : Bool) (l : List ℕ). b && parts_stand behind lo l) (sym t ∙ er) en
-              ∙ sym (stand_more e behind lo scratch) ∙ ap (λ (l : List Entry). parts_stand l lo scratch) (sym split)
-              ∙ l.stands;
-          over = ap (scratch_over behind lo) en ∙ sym (left_more e behind lo scratch)
-              ∙ ap (λ (l : List Entry). scratch_over l lo scratch) (sym split) ∙ l.over;
-        }
+      pub one_released : (e : Entry) (behind : List Entry) (still : Bool) (next : List ℕ) → rest ≡ e ∷ behind
+          → still ≡ (so && part_stands lo scratch e) → next ≡ scratch_after lo scratch e → Left all first behind still next
+      one_released e behind still next split es en = record {
+        stands = ap₂ (λ (b : Bool) (l : List ℕ). b && parts_stand behind lo l) es en
+            ∙ and_assoc so (part_stands lo scratch e) (parts_stand behind lo (scratch_after lo scratch e))
+            ∙ ap (λ (b : Bool). so && b) (sym (stand_more e behind lo scratch)
+            ∙ ap (λ (l : List Entry). parts_stand l lo scratch) (sym split)) ∙ l.stands;
+        over = ap (scratch_over behind lo) en ∙ sym (left_more e behind lo scratch)
+            ∙ ap (λ (l : List Entry). scratch_over l lo scratch) (sym split) ∙ l.over;
+      }
 
       -- some more
-      module _ (some behind : List Entry) (r : Bool) (split : rest ≡ some ++ behind)
-          (er : r ≡ parts_stand some lo scratch) where
-        pub some_fail : r ≡ false → false ≡ parts_stand all lo first
-        some_fail f =
-            first_fails _ (parts_stand behind lo (scratch_over some lo scratch)) (sym er ∙ f)
-            ∙ sym (parts_split some behind scratch) ∙ ap (λ (l : List Entry). parts_stand l lo scratch) (sym split) ∙ l.stands
-
-        pub some_released : (next : List ℕ) → r ≡ true → (r ≡ true → next ≡ scratch_over some lo scratch)
-            → Left all first behind next
-        some_released next t en = record {
-          stands = ap₂ (λ (b : Bool) (l : List ℕ). b && parts_stand behind lo l) (sym t ∙ er) (en t)
-              ∙ sym (parts_split some behind scratch) ∙ ap (λ (l : List Entry). parts_stand l lo scratch) (sym split)
-              ∙ l.stands;
-          over = ap (scratch_over behind lo) (en t) ∙ sym (scratch_split some behind scratch)
-              ∙ ap (λ (l : List Entry). scratch_over l lo scratch) (sym split) ∙ l.over;
-        }
+      pub some_released : (some behind : List Entry) (still : Bool) (next : List ℕ) → rest ≡ some ++ behind
+          → still ≡ (so && parts_stand some lo scratch) → next ≡ scratch_over some lo scratch → Left all first behind still next
+      some_released some behind still next split es en = record {
+        stands = ap₂ (λ (b : Bool) (l : List ℕ). b && parts_stand behind lo l) es en
+            ∙ and_assoc so (parts_stand some lo scratch) (parts_stand behind lo (scratch_over some lo scratch))
+            ∙ ap (λ (b : Bool). so && b) (sym (parts_split some behind scratch)
+            ∙ ap (λ (l : List Entry). parts_stand l lo scratch) (sym split)) ∙ l.stands;
+        over = ap (scratch_over behind lo) en ∙ sym (scratch_split some behind scratch)
+            ∙ ap (λ (l : List Entry). scratch_over l lo scratch) (sym split) ∙ l.over;
+      }

@@ -64,43 +64,39 @@ fn fill_in(image: &[u8], n: u32, c: usize, lo: u32, scratch: &mut [u64])
     read_words(&mut scratch[..w], image, 3 + 3 * c + 2 * a);
 }
 
-// Releases the parts of extents whose entries stand one behind the other in a frame, from byte `at` of the image on, up to one
-// that is not taken. This is the loop that a load goes through most: every entry, once for each window.
+// Releases the parts of extents whose entries stand one behind the other in a frame, from byte `at` of the image on. This is
+// the loop that a load goes through most: every entry, once for each window. A part that is not taken does not end it.
 fn release_together(lo: u32, scratch: &mut [u64], image: &[u8], at: usize, count: usize) -> bool
     requires { at + 12 * count ≤ length image.now }
     ensures { (result ≡ parts_stand (entries_from image.now at count) lo scratch.old)
-        × (result ≡ true → scratch.new ≡ scratch_over (entries_from image.now at count) lo scratch.old) }
+        × (scratch.new ≡ scratch_over (entries_from image.now at count) lo scratch.old) }
 {
+    let mut stand = true;
     for i in 0..count {
-        if !release_near(lo, scratch, entry_here(image, at + 12 * i)) {
-            return false;
-        }
+        stand = release_near(lo, scratch, entry_here(image, at + 12 * i), stand);
     }
-    true
+    stand
 }
 
-// Releases the parts of the c extents that stand in an image, up to one that is not taken: frame by frame, as they are counted.
+// Releases the parts of the c extents that stand in an image: frame by frame, as they are counted.
 fn release_in(lo: u32, scratch: &mut [u64], image: &[u8], c: usize) -> bool
     requires { (c ≤ 1024) × (3 + 3 * c ≤ 124 * total_of image.now) }
     ensures { (result ≡ parts_stand (entries_in image.now c) lo scratch.old)
-        × (result ≡ true → scratch.new ≡ scratch_over (entries_in image.now c) lo scratch.old) }
+        × (scratch.new ≡ scratch_over (entries_in image.now c) lo scratch.old) }
 {
+    let mut stand = true;
     let mut sheet: usize = 0;
     while sheet < c {
         let count = together(sheet, c);
-        if !release_together(lo, scratch, image, place(3 + 3 * sheet), count) {
-            return false;
-        }
+        stand &= release_together(lo, scratch, image, place(3 + 3 * sheet), count);
         sheet += count;
         if c <= sheet {
             break;
         }
-        if !release_part(lo, scratch, entry_across(image, 3 + 3 * sheet)) {
-            return false;
-        }
+        stand &= release_part(lo, scratch, entry_across(image, 3 + 3 * sheet));
         sheet += 1;
     }
-    true
+    stand
 }
 
 // Whether the window from block lo on is as it should be. It and the loop over windows are as those of a lent state (crate

@@ -8,6 +8,7 @@ use Prim.Native.Nat.{ℕ, zero, suc, ◌+◌, ◌-◌, ◌≤◌, ◌<◌}
 use native.Mathlib.Omega.{arith}
 use native.Mathlib.Numerals.{add-one}
 use lib.ListN.{length, get_or, set, drop}
+use Rattle.std.proofs.Math.Bool.{and_assoc, and-true}
 use Rattle.std.proofs.lemmas.List.{drop_all}
 use Rattle.catalogue.specs.Entries.{zeros}
 use lib.Seq.{drop-cons, ext_get_or, get_or-set_same, get_or-set_other}
@@ -39,20 +40,23 @@ left_more e es lo scratch = refl
 
 -- and by the place of an entry
 module _ (es : List Entry) (i lo : ℕ) (scratch : List ℕ) where
-  module _ (r : Bool) (next : List ℕ) (h : i < length es) (er : r ≡ part_stands lo scratch (get_or es i zeros))
+  module _ (so still : Bool) (next : List ℕ) (h : i < length es)
+      (er : still ≡ (so && part_stands lo scratch (get_or es i zeros)))
       (en : next ≡ scratch_after lo scratch (get_or es i zeros)) where
-    pub stand_step : (r && parts_stand (drop (i + 1) es) lo next) ≡ parts_stand (drop i es) lo scratch
+    pub stand_step : (still && parts_stand (drop (i + 1) es) lo next) ≡ (so && parts_stand (drop i es) lo scratch)
     stand_step =
         ap₂ (λ (b : Bool) (l : List ℕ). b && parts_stand (drop (i + 1) es) lo l) er en
-        ∙ rw (drop-cons es i zeros h, add-one) (sym (stand_more (get_or es i zeros) _ lo scratch))
+        ∙ and_assoc so (part_stands lo scratch (get_or es i zeros)) _
+        ∙ ap (λ (b : Bool). so && b)
+        (rw (drop-cons es i zeros h, add-one) (sym (stand_more (get_or es i zeros) _ lo scratch)))
 
     pub left_step : scratch_over (drop (i + 1) es) lo next ≡ scratch_over (drop i es) lo scratch
     left_step =
         ap (scratch_over (drop (i + 1) es) lo) en
         ∙ rw (drop-cons es i zeros h, add-one) (sym (left_more (get_or es i zeros) _ lo scratch))
 
-  pub stand_end : length es ≤ i → true ≡ parts_stand (drop i es) lo scratch
-  stand_end h = rw (drop_all i es h) (sym (stand_none lo scratch))
+  pub stand_end : (so : Bool) → length es ≤ i → so ≡ (so && parts_stand (drop i es) lo scratch)
+  stand_end so h = rw (drop_all i es h) (sym (ap (λ (b : Bool). so && b) (stand_none lo scratch) ∙ and-true so))
 
   pub left_end : length es ≤ i → scratch ≡ scratch_over (drop i es) lo scratch
   left_end h = rw (drop_all i es h) (sym (left_none lo scratch))

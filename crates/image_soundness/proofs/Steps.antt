@@ -1,6 +1,6 @@
 -- What the tests of the functions here decide, one by one.
 -- Assumes nothing.
-use mathlib.Core.Path.{◌≡◌, sym, ap}
+use mathlib.Core.Path.{◌≡◌, sym, ap, ◌∙◌}
 use mathlib.Core.Bool.{Bool, true, false, ◌&&◌, cond}
 use mathlib.Core.List.{List}
 use Prim.Native.Nat.{ℕ, ◌+◌, ◌-◌, ◌*◌, ◌/◌, ◌%◌, ◌≤◌, ◌<◌}
@@ -10,6 +10,7 @@ use lib.ListN.{length}
 use borrow.Author.Tests.{le-leb, lt-leb, le-ltb, leb-true}
 use Rattle.std.specs.Prelude.{Option, Some, None}
 use Rattle.std.specs.Option.{SomeIff}
+use Rattle.std.proofs.Math.Bool.{and-true}
 use Rattle.map_blocks.specs.Blocks.{all}
 use Rattle.map_blocks.specs.Maps.{in_state}
 use Rattle.laws.proofs.Bools.{and_left}
@@ -23,6 +24,10 @@ first_fails a b e = sym (ap (λ (x : Bool). x && b) e)
 
 pub first_holds : (a b : Bool) → a ≡ true → b ≡ (a && b)
 first_holds a b e = sym (ap (λ (x : Bool). x && b) e)
+
+-- the first decides where the second holds
+pub second_holds : (a b : Bool) → b ≡ true → a ≡ (a && b)
+second_holds a b e = sym (ap (λ (x : Bool). a && x) e ∙ and-true a)
 
 -- the first of two tests is enough, or it is left to the second
 pub either_first : (a b : Bool) → a ≡ true → true ≡ cond a true b

@@ -1,6 +1,6 @@
 -- One window: it passes exactly where each of its blocks is free or covered once below n, and neither from n on.
 -- Assumes nothing.
-use mathlib.Core.Path.{◌≡◌, refl, sym, ap, ap₂, ◌∙◌}
+use mathlib.Core.Path.{◌≡◌, sym, ap, ap₂, ◌∙◌}
 use mathlib.Core.Bool.{Bool, true, false, ◌&&◌}
 use mathlib.Core.List.{List}
 use Prim.Native.Nat.{ℕ, ◌+◌, ◌-◌, ◌*◌, ◌/◌, ◌%◌, ◌^◌, ◌≤◌, ◌<◌, min}
@@ -49,18 +49,14 @@ window_long map es m n lo h = simp (lt-leb m 64 h)
 -- and with another, by what it was found to be
 module _ (map : List ℕ) (es : List Entry) (m n lo : ℕ) (words used : List ℕ) (stand : Bool)
     (few : m ≤ 64) (ew : words ≡ words_from map (lo / 64) m) (st : stand ≡ parts_stand es lo words)
-    (eu : stand ≡ true → used ≡ scratch_over es lo words) where
+    (eu : used ≡ scratch_over es lo words) where
   pub window_told : (stand && is_fresh used (n - lo)) ≡ window_passes map es m n lo
   unfolding window_passes
   window_told =
-      by stand st eu ∙ ap (λ (l : List ℕ). parts_stand es lo l && is_fresh (scratch_over es lo l) (n - lo)) ew
+      ap₂ (λ (b : Bool) (l : List ℕ). b && is_fresh l (n - lo)) st eu
+      ∙ ap (λ (l : List ℕ). parts_stand es lo l && is_fresh (scratch_over es lo l) (n - lo)) ew
       ∙ ap (λ (b : Bool). b && parts_stand es lo (words_from map (lo / 64) m)
       && is_fresh (scratch_over es lo (words_from map (lo / 64) m)) (n - lo)) (sym (le-leb m 64 few))
-    where
-      by : (s : Bool) → s ≡ parts_stand es lo words → (s ≡ true → used ≡ scratch_over es lo words)
-          → (s && is_fresh used (n - lo)) ≡ (parts_stand es lo words && is_fresh (scratch_over es lo words) (n - lo))
-      by true s u = ap₂ (λ (b : Bool) (l : List ℕ). b && is_fresh l (n - lo)) s (u refl)
-      by false s u = ap (λ (b : Bool). b && is_fresh (scratch_over es lo words) (n - lo)) s
 
 -- all of them
 module _ (map : List ℕ) (es : List Entry) (m n : ℕ) where

@@ -4,7 +4,7 @@
 // others, must be free.
 #![tactic(auto)]
 
-ghost use Rattle.std.specs.Prelude.{◌≡◌, ◌+◌, ◌*◌, ◌/◌, ◌≤◌, true, false, length, replicate};
+ghost use Rattle.std.specs.Prelude.{◌≡◌, ◌+◌, ◌*◌, ◌/◌, ◌≤◌, ◌&&◌, true, false, length, replicate};
 ghost use Rattle.image_soundness.specs.Windows.{touches, taken, part_stands, scratch_after, parts_stand, scratch_over};
 ghost use Rattle.image_soundness.specs.Windows.{window_passes, windows_pass, tested};
 
@@ -65,24 +65,28 @@ pub fn release_part(lo: u32, scratch: &mut [u64], entry: Entry) -> bool
     true
 }
 
-// The same. Most extents have no part there, so that this is tested first.
-pub fn release_near(lo: u32, scratch: &mut [u64], entry: Entry) -> bool
-    ensures { (result ≡ part_stands lo scratch.old entry) × (scratch.new ≡ scratch_after lo scratch.old entry) }
+// The same, where `stand` says whether each part before it was taken. Most extents have no part there, so that this is tested
+// first, and leaves a loop nothing to keep.
+pub fn release_near(lo: u32, scratch: &mut [u64], entry: Entry, stand: bool) -> bool
+    ensures { (result ≡ (stand && part_stands lo scratch.old entry)) × (scratch.new ≡ scratch_after lo scratch.old entry) }
 {
-    !may_have_part(lo, entry) || release_part(lo, scratch, entry)
+    if !may_have_part(lo, entry) {
+        return stand;
+    }
+    stand & release_part(lo, scratch, entry)
 }
 
-// Releases the parts of all extents, up to one that is not taken. An extent without a part leaves the loop nothing to keep.
+// Releases the parts of all extents, and says whether each was taken. One that is not does not end the loop: it is kept that it
+// was met.
 fn release_parts(catalogue: &[Entry], lo: u32, scratch: &mut [u64]) -> bool
     ensures { (result ≡ parts_stand catalogue.now lo scratch.old)
-        × (result ≡ true → scratch.new ≡ scratch_over catalogue.now lo scratch.old) }
+        × (scratch.new ≡ scratch_over catalogue.now lo scratch.old) }
 {
+    let mut stand = true;
     for entry in catalogue {
-        if !release_near(lo, scratch, *entry) {
-            return false;
-        }
+        stand = release_near(lo, scratch, *entry, stand);
     }
-    true
+    stand
 }
 
 // Whether the window from block lo on is as it should be. With a scratch of over 64 words it is not.

@@ -10,7 +10,8 @@ use Rattle.image_content.proofs.release_in.Given as goal
 abbrev pub invariant-loop-sheet : goal.invariant-loop-sheet
 invariant-loop-sheet l = record {
   inside : l.sheet ≤ l.c;
-  left : Left l.lo (entries_in l.image l.c) l.initial.scratch (rest (body_of l.image) 12 l.c l.sheet) l.scratch;
+  left : Left l.lo (entries_in l.image l.c) l.initial.scratch (rest (body_of l.image) 12 l.c l.sheet)
+      l.stand l.scratch;
 }
 
 abbrev pub decreases-loop-sheet : goal.decreases-loop-sheet

@@ -7,4 +7,4 @@ use Rattle.image_content.proofs.release_together.Given as goal
 
 abbrev pub invariant-loop-i : goal.invariant-loop-i
 invariant-loop-i l =
-    Left l.lo (entries_from l.image l.at l.count) l.initial.scratch (rest l.image l.at l.count l.i) l.scratch
+    Left l.lo (entries_from l.image l.at l.count) l.initial.scratch (rest l.image l.at l.count l.i) l.stand l.scratch
