@@ -4,7 +4,7 @@ ghost use Rattle.refusals.specs.Lent.{lent_for, no_card};
 ghost use Rattle.refusals.specs.Effects.{change_out};
 ghost use Rattle.refusals.specs.Marks.{is_admitted};
 ghost use Rattle.refusals.specs.Table.{admits_of, mark_after};
-ghost use Rattle.call_pause.specs.Changes.{change_of, name_of, admitted_of, mark_out};
+ghost use Rattle.call_pause.specs.Changes.{change_of, name_of, by_row, admitted_of, mark_out};
 
 use catalogue::{COMPLETE, Entry, PAUSED};
 use catalogue_standings::opening::{Asked, row_of};
@@ -71,7 +71,7 @@ impl Change {
         ensures { let q = lent_for asked (name_of self) false [] map.now no_card in
             result ≡ change_out q (change_of self) }
     {
-        let opened = asked.enter(self.call(), map, None);
+        let opened = by_row(asked.enter(self.call(), map, None));
         let verdict = admit(self.admits(), opened);
         with_mark(asked.free, asked.entry, verdict, self.mark())
     }
@@ -90,23 +90,33 @@ fn is_admitted(admits: Admits, stands: Standing) -> bool
     }
 }
 
+// A refusal by the number of its row.
+fn by_row(opened: Result<Standing, Refusal>) -> Result<Standing, u32>
+    ensures { result ≡ by_row opened }
+{
+    match opened {
+        Ok(stands) => Ok(stands),
+        Err(why) => Err(why.number()),
+    }
+}
+
 // A standing that the call does not admit is refused by its own row.
-pub fn admit(admits: Admits, opened: Result<Standing, Refusal>) -> Result<Standing, Refusal>
+pub fn admit(admits: Admits, opened: Result<Standing, u32>) -> Result<Standing, u32>
     ensures { result ≡ admitted_of admits opened }
 {
     let stands = opened?;
     if is_admitted(admits, stands) {
         return Ok(stands);
     }
-    Err(row_of(stands))
+    Err(row_of(stands).number())
 }
 
 // The entry with the mark, start and length as they were, unless the verdict is a refusal.
-pub fn with_mark(free: u32, entry: Entry, verdict: Result<Standing, Refusal>, mark: u32) -> Out
+pub fn with_mark(free: u32, entry: Entry, verdict: Result<Standing, u32>, mark: u32) -> Out
     ensures { result ≡ mark_out free entry verdict mark }
 {
     match verdict {
-        Err(why) => refusal(free, entry, why.number()),
+        Err(row) => refusal(free, entry, row),
         Ok(_) => Out {
             free: free,
             entry: Entry {
