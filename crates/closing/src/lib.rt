@@ -1,7 +1,7 @@
 // Closing the gaps (document 02 (l)): whether the state is sound, as save tests it, and the verdict. Then round by round: of
 // the extents that start at or after the end of those that have moved, the one with the least start moves down to that end.
-// There are as many rounds as entries, and each is one pass over them. Last the map: as many blocks as all extents have are
-// taken.
+// There are as many rounds as entries at most, and each is one pass over them: the first that finds no extent ends them. Last
+// the map: as many blocks as all extents have are taken.
 #![tactic(auto)]
 
 ghost use Rattle.std.specs.Prelude.{◌≡◌, ◌*◌, ◌<◌, ◌≤◌, length, IfSome, MatchOption};
