@@ -11,7 +11,7 @@
  * headers and the archive, with a file for pkg-config. pagunlit_payload.h, which this header includes, has what a payload
  * holds, the calendar and single blocks; pagunlit_card.h keeps what the calls are lent in one struct; pagunlit_text.h has
  * texts. The library allocates nothing, opens nothing and keeps nothing. Of the C library it needs memset and memmove.
- * Stack: a survey takes up to 648 bytes, a reserve 624, a call with a summary 992, any other call 600 at most,
+ * Stack: a survey takes up to 648 bytes, a reserve 624, a call with a summary 992, any other call 616 at most,
  * on x86-64. docs/C.md has more on all of this.
  *
  * Global names: all begin with pagunlit_ or PAGUNLIT_, but for the functions `seal` and `check`, which the dispenser's program
