@@ -9,7 +9,7 @@ use Rattle.catalogue.specs.declared.Entry.{Entry}
 use Rattle.catalogue_standings.specs.Rows.{Verdict, accepted, refused, first_of, settle, row_number}
 use Rattle.catalogue_standings.proofs.Rows.{never_says}
 use Rattle.image_soundness.specs.Sound.{State, sound}
-use Rattle.image_soundness.specs.Windows.{tested}
+use Rattle.image_soundness.specs.Windows.{state_tested}
 use Rattle.image.proofs.Refused.{not_zero}
 use Rattle.catalogue_standings.specs.Refusals.{number, number_in}
 use Rattle.catalogue_standings.specs.declared.Refusal.{Refusal}
@@ -109,7 +109,7 @@ module _ (turned : Bool) (n spare : ℕ) (fits : Bool) (map : List ℕ) (entries
 
       -- whether the state is sound, as it was tested
       pub whole_tested : (blocks : Option ℕ) → SomeIff blocks (spare ≤ n) (n - spare)
-          → tested map entries (length scratch) n blocks ≡ sound state
+          → state_tested map entries (length scratch) n blocks ≡ sound state
       whole_tested = subtracted_sound state (length scratch) long.saved.shape long.saved.scratch
 
       pub told-4 : sound state ≡ false → 4 ≡ told

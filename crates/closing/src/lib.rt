@@ -19,7 +19,7 @@ use catalogue::Entry;
 use catalogue_standings::Refusal;
 use closing_moves::move_blocks;
 use image::limits::save_fits;
-use image_windows::test_sound;
+use image_windows::test_state;
 use map_blocks::run::{TAKEN, fresh, mark};
 use roles::Call;
 
@@ -139,7 +139,7 @@ fn verdict(
     ) {
         return Err(Refusal::Misfit);
     }
-    if !test_sound(map, catalogue, scratch, n, n.checked_sub(free)) {
+    if !test_state(map, catalogue, scratch, n, n.checked_sub(free)) {
         return Err(Refusal::Damaged);
     }
     Ok(())

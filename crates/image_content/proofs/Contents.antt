@@ -15,8 +15,8 @@ use Rattle.image_frames.specs.Frames.{body_of}
 use Rattle.image.proofs.Journey.{map_length}
 use Rattle.image_soundness.specs.Scratch.{scratch_words}
 use Rattle.image_soundness.specs.Sound.{State, sound}
-use Rattle.image_soundness.specs.Windows.{tested}
-use Rattle.image_soundness.proofs.Tested.{tested_sound}
+use Rattle.image_soundness.specs.Windows.{state_tested}
+use Rattle.image_soundness.proofs.Tested.{state_tested_sound}
 use Rattle.image.specs.Image.{content_length, blocks_in, free_count_in, sheets_in, entries_in, map_in, state_in, filled}
 
 abbrev state : ℕ → ℕ → List Entry → List ℕ → State
@@ -26,9 +26,9 @@ state n spare entries map = record { blocks = n; spare = spare; entries = entrie
 module _ (image : List ℕ) (n spare c : ℕ) (en : n ≡ blocks_in image) (es : spare ≡ free_count_in image)
     (ec : c ≡ sheets_in image) where
   pub content_sound : shape_fits n spare (words_for n) ≡ true → (m : ℕ) → m ≡ scratch_words (words_for n)
-      → tested (map_in image n c) (entries_in image c) m n (Some (n - spare)) ≡ sound (state_in image)
+      → state_tested (map_in image n c) (entries_in image c) m n (Some (n - spare)) ≡ sound (state_in image)
   content_sound fit m size =
-      tested_sound (state n spare (entries_in image c) (map_in image n c)) m
+      state_tested_sound (state n spare (entries_in image c) (map_in image n c)) m
       (ap (shape_fits n spare) (map_length image n c) ∙ fit) (size ∙ ap scratch_words (sym (map_length image n c)))
       ∙ ap₂ (λ (x y : ℕ). sound (state x y (entries_in image c) (map_in image x c))) en es
       ∙ ap (λ (x : ℕ). sound (state (blocks_in image) (free_count_in image) (entries_in image x)

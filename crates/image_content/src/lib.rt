@@ -9,7 +9,8 @@ ghost use Rattle.map_blocks.specs.Maps.{words_for};
 ghost use Rattle.image_frames.specs.Frames.{total_of};
 ghost use Rattle.image_soundness.specs.Scratch.{scratch_words};
 ghost use Rattle.image_soundness.specs.Sound.{sound};
-ghost use Rattle.image_soundness.specs.Windows.{tally_of, words_from, parts_stand, scratch_over, window_passes, windows_pass};
+ghost use Rattle.image_soundness.specs.Windows.{tally_of, words_from, parts_stand, scratch_over, state_window_passes};
+ghost use Rattle.image_soundness.specs.Windows.{state_windows_pass};
 ghost use Rattle.image.specs.Image.{blocks_in, free_count_in, sheets_in, entries_from, entries_in, map_in, state_in, filled};
 ghost use Rattle.image.specs.Table.{head_fits};
 
@@ -103,7 +104,7 @@ fn release_in(lo: u32, scratch: &mut [u64], image: &[u8], c: usize) -> bool
 // image_windows): a trait over the two sources would have more lines than these have.
 fn test_window(image: &[u8], n: u32, c: usize, lo: u32, scratch: &mut [u64]) -> bool
     requires { (lo ≤ n) × (n ≤ 262144) × (c ≤ 1024) × (3 + 3 * c ≤ 124 * total_of image.now) × (length scratch.old ≤ 64) }
-    ensures { result ≡ window_passes (map_in image.now n c) (entries_in image.now c) (length scratch.old) n lo }
+    ensures { result ≡ state_window_passes (map_in image.now n c) (entries_in image.now c) (length scratch.old) n lo }
 {
     fill_in(image, n, c, lo, scratch);
     let stand = release_in(lo, scratch, image, c);
@@ -113,7 +114,7 @@ fn test_window(image: &[u8], n: u32, c: usize, lo: u32, scratch: &mut [u64]) -> 
 // All windows, up to one that fails.
 fn test_windows(image: &[u8], n: u32, c: usize, scratch: &mut [u64]) -> bool
     requires { (n ≤ 262144) × (c ≤ 1024) × (3 + 3 * c ≤ 124 * total_of image.now) × (length scratch.old ≤ 64) }
-    ensures { result ≡ windows_pass (map_in image.now n c) (entries_in image.now c) (length scratch.old) n }
+    ensures { result ≡ state_windows_pass (map_in image.now n c) (entries_in image.now c) (length scratch.old) n }
 {
     for i in 0..n.div_ceil(WINDOW) {
         if !test_window(image, n, c, i * WINDOW, scratch) {

@@ -17,7 +17,7 @@ use Rattle.image.specs.Table.{save_fits, save_rows, save_verdict}
 use Rattle.image.proofs.Fitting.{save_fits_to}
 use Rattle.catalogue.specs.declared.Entry.{Entry}
 use Rattle.image_soundness.specs.Sound.{State, sound}
-use Rattle.image_soundness.specs.Windows.{tested}
+use Rattle.image_soundness.specs.Windows.{state_tested}
 use Rattle.image_soundness.proofs.Tested.{subtracted_sound}
 
 module _ (turned : Bool) (n spare : ℕ) (map : List ℕ) (entries : List Entry) (scratch image : List ℕ) where
@@ -42,7 +42,7 @@ module _ (turned : Bool) (n spare : ℕ) (map : List ℕ) (entries : List Entry)
     module _ (f : fit ≡ true) where
       -- whether the state is sound, as it was tested
       pub save_tested : (blocks : Option ℕ) → SomeIff blocks (spare ≤ n) (n - spare)
-          → tested map entries (length scratch) n blocks ≡ sound state
+          → state_tested map entries (length scratch) n blocks ≡ sound state
       save_tested =
           let l = save_fits_to n spare (length entries) (length map) (length scratch) f in
           subtracted_sound state (length scratch) l.shape l.scratch

@@ -20,7 +20,7 @@ use catalogue::Entry;
 use catalogue_standings::Refusal;
 use image::limits::{frames_for, save_fits};
 use image_frames::{NUMBERS, place, put_number, put_zeros, seal_all, write_words};
-use image_windows::test_sound;
+use image_windows::test_state;
 use roles::Call;
 
 // The rows of save.
@@ -43,7 +43,7 @@ fn verdict(
     if !save_fits(n, free, count, map.len(), scratch.len()) {
         return Err(Refusal::Misfit);
     }
-    if !test_sound(map, catalogue, scratch, n, n.checked_sub(free)) {
+    if !test_state(map, catalogue, scratch, n, n.checked_sub(free)) {
         return Err(Refusal::Damaged);
     }
     if image.len() != BLOCK * frames_for(n, count) {

@@ -1,7 +1,8 @@
 -- How soundness is tested with a scratch of 64 words. First each entry alone: it must keep the rule of its mark, and the
 -- lengths together must make what the free count leaves of n. Then the map, window by window: the 64 words of a window are
 -- copied to the scratch, and of each extent the part that lies there is released, which must be taken; at the end all blocks
--- of the window below n, and no others, must be free. `tested_sound` (proofs/Tested.antt) says that this is soundness.
+-- of the window below n, and no others, must be free. `tested_sound` and `state_tested_sound` (proofs/Tested.antt) say that
+-- this is soundness.
 -- Assumes nothing.
 use Rattle.std.specs.Prelude.{Bool, true, false, ◌&&◌, cond, List, [], ◌∷◌, ℕ, zero, suc, ◌+◌, ◌-◌, ◌*◌, ◌/◌, min, max}
 use Rattle.std.specs.Prelude.{Option, Some, None, eqb, leb, ltb, length, get_or}
@@ -80,17 +81,33 @@ unfolding scratch_after
 scratch_over [] lo scratch = scratch
 scratch_over (e ∷ es) lo scratch = scratch_over es lo (scratch_after lo scratch e)
 
--- With a scratch of m words, 64 at most: all parts are taken, and all blocks of the window below n, and no others, are free
--- afterwards.
+-- With a scratch of m words: all parts are taken, and all blocks of the window below n, and no others, are free afterwards.
 module _ (map : List ℕ) (es : List Entry) (m n lo : ℕ) where
   abbrev pub window_words : List ℕ
   window_words = words_from map (lo / 64) m
 
   unfoldable pub window_passes : Bool
   unfolding words_from parts_stand scratch_over
-  window_passes = leb m 64 && parts_stand es lo window_words && is_fresh (scratch_over es lo window_words) (n - lo)
+  window_passes = parts_stand es lo window_words && is_fresh (scratch_over es lo window_words) (n - lo)
 
--- ---- the whole test
+  -- The same, with a scratch of 64 words at most.
+  unfoldable pub state_window_passes : Bool
+  unfolding words_from parts_stand scratch_over
+  state_window_passes = leb m 64 && parts_stand es lo window_words && is_fresh (scratch_over es lo window_words) (n - lo)
+
+-- ---- the whole test, of a map of any length
+
+-- Of a map and entries, with a scratch of m words and so many blocks to make: every entry counts, the lengths make those
+-- blocks, and every window passes.
+unfoldable pub windows_pass : List ℕ → List Entry → ℕ → ℕ → Bool
+unfolding window_passes
+windows_pass map es m n = all (λ i. window_passes map es m n (4096 * i)) 0 ((n + 4095) / 4096)
+
+unfoldable pub tested : List ℕ → List Entry → ℕ → ℕ → ℕ → Bool
+unfolding tally_of windows_pass
+tested map es m n blocks = leb m 64 && option_eq eqb (tally_of es n blocks) (Some 0) && windows_pass map es m n
+
+-- ---- the whole test, of a state as save, load and closing have it
 
 -- The first block of window i: they begin 4096 blocks apart, and none behind block 266240, which no card has.
 abbrev pub window_start : ℕ → ℕ
@@ -98,10 +115,11 @@ window_start i = min (4096 * i) 266240
 
 -- Of a state's map and entries, with a scratch of m words and so many blocks to make, or None if the free count is more than n:
 -- every entry counts, the lengths make those blocks, and every window passes. Of no blocks there is none.
-unfoldable pub windows_pass : List ℕ → List Entry → ℕ → ℕ → Bool
-unfolding window_passes
-windows_pass map es m n = all (λ i. window_passes map es m n (window_start i)) 0 ((n + 4095) / 4096)
+unfoldable pub state_windows_pass : List ℕ → List Entry → ℕ → ℕ → Bool
+unfolding state_window_passes
+state_windows_pass map es m n = all (λ i. state_window_passes map es m n (window_start i)) 0 ((n + 4095) / 4096)
 
-unfoldable pub tested : List ℕ → List Entry → ℕ → ℕ → Option ℕ → Bool
-unfolding tally_of windows_pass
-tested map es m n blocks = option_eq eqb (option_and_then (tally_of es n) blocks) (Some 0) && windows_pass map es m n
+unfoldable pub state_tested : List ℕ → List Entry → ℕ → ℕ → Option ℕ → Bool
+unfolding tally_of state_windows_pass
+state_tested map es m n blocks =
+    option_eq eqb (option_and_then (tally_of es n) blocks) (Some 0) && state_windows_pass map es m n

@@ -4,9 +4,13 @@
 // others, must be free.
 #![tactic(auto)]
 
+mod any_size;
+#[cfg(test)]
+mod tests;
+
 ghost use Rattle.std.specs.Prelude.{◌≡◌, ◌+◌, ◌*◌, ◌/◌, ◌≤◌, ◌&&◌, true, false, length, replicate};
 ghost use Rattle.image_soundness.specs.Windows.{touches, taken, part_stands, scratch_after, parts_stand, scratch_over};
-ghost use Rattle.image_soundness.specs.Windows.{window_passes, windows_pass, tested};
+ghost use Rattle.image_soundness.specs.Windows.{tested, state_window_passes, state_windows_pass, state_tested};
 
 use catalogue::Entry;
 use image_soundness::words::copy_from;
@@ -92,7 +96,7 @@ fn release_parts(catalogue: &[Entry], lo: u32, scratch: &mut [u64]) -> bool
 // Whether the window from block lo on is as it should be. With a scratch of over 64 words it is not.
 fn test_window(map: &[u64], catalogue: &[Entry], scratch: &mut [u64], n: u32, lo: u32) -> bool
     requires { lo ≤ n }
-    ensures { result ≡ window_passes map.now catalogue.now (length scratch.old) n lo }
+    ensures { result ≡ state_window_passes map.now catalogue.now (length scratch.old) n lo }
 {
     if SCRATCH < scratch.len() {
         return false;
@@ -104,7 +108,7 @@ fn test_window(map: &[u64], catalogue: &[Entry], scratch: &mut [u64], n: u32, lo
 
 // All windows, up to one that fails.
 fn test_windows(map: &[u64], catalogue: &[Entry], scratch: &mut [u64], n: u32) -> bool
-    ensures { result ≡ windows_pass map.now catalogue.now (length scratch.old) n }
+    ensures { result ≡ state_windows_pass map.now catalogue.now (length scratch.old) n }
 {
     for i in 0..n.div_ceil(WINDOW) {
         let lo = (i * WINDOW).min(LAST);
@@ -123,7 +127,7 @@ fn passes(
     n: u32,
     blocks: Option<u32>,
 ) -> bool
-    ensures { result ≡ tested map.now catalogue.now (length scratch.old) n blocks }
+    ensures { result ≡ state_tested map.now catalogue.now (length scratch.old) n blocks }
 {
     let Some(blocks) = blocks else {
         return false;
@@ -136,17 +140,32 @@ fn passes(
 
 // Whether a map and its entries are sound, where the entries must make so many blocks: n less the free count, or None if that
 // is more than n, and then they are not. The scratch is all zeros afterwards.
-pub fn test_sound(
+pub fn test_state(
     map: &[u64],
     catalogue: &[Entry],
     scratch: &mut [u64],
     n: u32,
     blocks: Option<u32>,
 ) -> bool
-    ensures { (result ≡ tested map.now catalogue.now (length scratch.old) n blocks)
+    ensures { (result ≡ state_tested map.now catalogue.now (length scratch.old) n blocks)
         × (scratch.new ≡ replicate (length scratch.old) 0) }
 {
     let sound = passes(map, catalogue, scratch, n, blocks);
     scratch.fill(0);
     sound
+}
+
+// The same of a map of any length, where the entries must make so many blocks: every window begins where it stands, and a
+// scratch of over 64 words is too long even for no blocks. Save and closing ask `test_state`.
+pub fn test_sound(
+    map: &[u64],
+    catalogue: &[Entry],
+    scratch: &mut [u64],
+    n: u32,
+    blocks: u32,
+) -> bool
+    ensures { (result ≡ tested map.now catalogue.now (length scratch.old) n blocks)
+        × (scratch.new ≡ replicate (length scratch.old) 0) }
+{
+    any_size::test_sound(map, catalogue, scratch, n, blocks)
 }

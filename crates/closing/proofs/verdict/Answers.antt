@@ -18,15 +18,15 @@ returns-then-not-close_fits c =
     told-1 (turned_away a.role names.close) a.n a.free a.fits a.map.now a.catalogue.now a.card.now a.scratch.now
     (sym c.turned_away.ensures ∙ c.if-turned_away.false) (sym c.close_fits.ensures ∙ c.if-not-close_fits.true)
 
-pub returns-then-not-test_sound : goal.returns-then-not-test_sound
-returns-then-not-test_sound c =
+pub returns-then-not-test_state : goal.returns-then-not-test_state
+returns-then-not-test_state c =
     let a = c.args in
     let turned = turned_away a.role names.close in
     let t = sym c.turned_away.ensures ∙ c.if-turned_away.false in
     let f = sym c.close_fits.ensures ∙ c.if-not-close_fits.false in
     told-4 turned a.n a.free a.fits a.map.now a.catalogue.now a.card.now a.scratch.now t f
     (sym (whole_tested turned a.n a.free a.fits a.map.now a.catalogue.now a.card.now a.scratch.now t f _
-    c.checked_sub.ensures) ∙ sym c.test_sound.ensures.0 ∙ c.if-not-test_sound.true)
+    c.checked_sub.ensures) ∙ sym c.test_state.ensures.0 ∙ c.if-not-test_state.true)
 
 pub returns : goal.returns
 returns c =
@@ -36,4 +36,4 @@ returns c =
     let f = sym c.close_fits.ensures ∙ c.if-not-close_fits.false in
     told-0 turned a.n a.free a.fits a.map.now a.catalogue.now a.card.now a.scratch.now t f
     (sym (whole_tested turned a.n a.free a.fits a.map.now a.catalogue.now a.card.now a.scratch.now t f _
-    c.checked_sub.ensures) ∙ sym c.test_sound.ensures.0 ∙ c.if-not-test_sound.false)
+    c.checked_sub.ensures) ∙ sym c.test_state.ensures.0 ∙ c.if-not-test_state.false)

@@ -3,7 +3,7 @@
 use Rattle.std.proofs.Common.{◌≡◌, ◌∙◌, refl, sym, ap, ◌&&◌, true, false, Bool, List, ℕ, arith, length}
 use Rattle.image.specs.Image.{state_in, filled, blocks_in, sheets_in, entries_in, map_in}
 use Rattle.image_soundness.specs.Sound.{sound}
-use Rattle.image_soundness.proofs.Tested.{tested_unlike, tested_windows}
+use Rattle.image_soundness.proofs.Tested.{state_tested_unlike, state_tested_windows}
 use Rattle.image.proofs.Fitting.{head_to}
 use Rattle.image_content.proofs.Contents.{content_sound, content_filled}
 use Rattle.image_content.proofs.content_holds.Goals as goal
@@ -35,7 +35,7 @@ returns-then-ne c =
     let pre = c.requires in
     let h = head_to _ _ _ _ pre.3 in
     unsound a.image.now _ (content_sound a.image.now a.n a.free a.c pre.0 pre.1 pre.2 h.shape (length a.scratch.now) pre.4)
-    (tested_unlike (map_in a.image.now a.n a.c) (entries_in a.image.now a.c) (length a.scratch.now) a.n _ _
+    (state_tested_unlike (map_in a.image.now a.n a.c) (entries_in a.image.now a.c) (length a.scratch.now) a.n _ _
     refl _ c.tally_in.ensures _ c.ne.ensures c.if-ne.true)
 
 pub returns-then-not-test_windows : goal.returns-then-not-test_windows
@@ -45,7 +45,7 @@ returns-then-not-test_windows c =
     let h = head_to _ _ _ _ pre.3 in
     unsound a.image.now _ (content_sound a.image.now a.n a.free a.c pre.0 pre.1 pre.2 h.shape (length a.scratch.now) pre.4)
     (sym c.if-not-test_windows.true ∙ c.test_windows.ensures
-    ∙ tested_windows (map_in a.image.now a.n a.c) (entries_in a.image.now a.c) (length a.scratch.now) a.n _ _
+    ∙ state_tested_windows (map_in a.image.now a.n a.c) (entries_in a.image.now a.c) (length a.scratch.now) a.n _ _
     refl _ c.tally_in.ensures _ c.ne.ensures c.if-ne.false)
 
 pub overflow_mul-c : goal.overflow_mul-c
@@ -67,6 +67,6 @@ returns c =
     let h = head_to _ _ _ _ pre.3 in
     by_fill a.image.now _ (content_sound a.image.now a.n a.free a.c pre.0 pre.1 pre.2 h.shape (length a.scratch.now) pre.4) _
     (sym c.if-not-test_windows.false ∙ c.test_windows.ensures
-    ∙ tested_windows (map_in a.image.now a.n a.c) (entries_in a.image.now a.c) (length a.scratch.now) a.n _ _
+    ∙ state_tested_windows (map_in a.image.now a.n a.c) (entries_in a.image.now a.c) (length a.scratch.now) a.n _ _
     refl _ c.tally_in.ensures _ c.ne.ensures c.if-ne.false)
     (c.zeros_from.ensures ∙ content_filled a.image.now a.n a.free a.c pre.0 pre.1 pre.2 _ c.words_for.ensures)

@@ -1,9 +1,10 @@
 -- The windows before this one pass.
 use Rattle.std.proofs.Common.{◌≡◌, ◌<◌, ℕ, true, length}
 use Rattle.image.specs.Image.{entries_in, map_in}
-use Rattle.image_soundness.specs.Windows.{window_start, window_passes}
+use Rattle.image_soundness.specs.Windows.{window_start, state_window_passes}
 use Rattle.image_content.proofs.test_windows.Given as goal
 
 abbrev pub invariant-loop-i : goal.invariant-loop-i
 invariant-loop-i l = (j : ℕ) → j < l.i
-    → window_passes (map_in l.image l.n l.c) (entries_in l.image l.c) (length l.initial.scratch) l.n (window_start j) ≡ true
+    → state_window_passes (map_in l.image l.n l.c) (entries_in l.image l.c) (length l.initial.scratch) l.n (window_start j)
+    ≡ true

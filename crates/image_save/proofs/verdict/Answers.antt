@@ -19,14 +19,14 @@ returns-then-not-save_fits c =
     save-row-1 (turned_away a.role names.save) a.n a.free a.map.now a.catalogue.now a.scratch.now a.image.now
     (sym c.turned_away.ensures ∙ c.if-turned_away.false) (sym c.save_fits.ensures ∙ c.if-not-save_fits.true)
 
-pub returns-then-not-test_sound : goal.returns-then-not-test_sound
-returns-then-not-test_sound c =
+pub returns-then-not-test_state : goal.returns-then-not-test_state
+returns-then-not-test_state c =
     let a = c.args in
     let t = sym c.turned_away.ensures ∙ c.if-turned_away.false in
     let f = sym c.save_fits.ensures ∙ c.if-not-save_fits.false in
     save-row-4 (turned_away a.role names.save) a.n a.free a.map.now a.catalogue.now a.scratch.now a.image.now t f
     (sym (save_tested (turned_away a.role names.save) a.n a.free a.map.now a.catalogue.now a.scratch.now a.image.now t f _
-    c.checked_sub.ensures) ∙ sym c.test_sound.ensures.0 ∙ c.if-not-test_sound.true)
+    c.checked_sub.ensures) ∙ sym c.test_state.ensures.0 ∙ c.if-not-test_state.true)
 
 pub frames_for-requires : goal.frames_for-requires
 frames_for-requires c =
@@ -45,7 +45,7 @@ returns-then-image-frames_for c =
     let f = sym c.save_fits.ensures ∙ c.if-not-save_fits.false in
     save-row-12 (turned_away a.role names.save) a.n a.free a.map.now a.catalogue.now a.scratch.now a.image.now t f
     (sym (save_tested (turned_away a.role names.save) a.n a.free a.map.now a.catalogue.now a.scratch.now a.image.now t f _
-    c.checked_sub.ensures) ∙ sym c.test_sound.ensures.0 ∙ c.if-not-test_sound.false)
+    c.checked_sub.ensures) ∙ sym c.test_state.ensures.0 ∙ c.if-not-test_state.false)
     _ c.frames_for.ensures c.if-image-frames_for.true
 
 pub returns : goal.returns
@@ -55,5 +55,5 @@ returns c =
     let f = sym c.save_fits.ensures ∙ c.if-not-save_fits.false in
     save-row-none (turned_away a.role names.save) a.n a.free a.map.now a.catalogue.now a.scratch.now a.image.now t f
     (sym (save_tested (turned_away a.role names.save) a.n a.free a.map.now a.catalogue.now a.scratch.now a.image.now t f _
-    c.checked_sub.ensures) ∙ sym c.test_sound.ensures.0 ∙ c.if-not-test_sound.false)
+    c.checked_sub.ensures) ∙ sym c.test_state.ensures.0 ∙ c.if-not-test_state.false)
     _ c.frames_for.ensures c.if-image-frames_for.false
