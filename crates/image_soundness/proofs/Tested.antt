@@ -43,6 +43,10 @@ left_none : (r : Option ℕ) → option_eq eqb r (Some 0) ≡ true → r ≡ Som
 left_none (Some x) e = ap Some (eqb-true x 0 e)
 left_none None e = absurd (true≢false (sym e))
 
+not_not : (b : Bool) → not (not b) ≡ b
+not_not true = refl
+not_not false = refl
+
 -- the test, as it goes: a scratch that is too long, entries that do not make the blocks, and then the windows
 module _ (map : List ℕ) (es : List Entry) (m n blocks : ℕ) where
   pub tested_long : 64 < m → false ≡ tested map es m n blocks
@@ -56,10 +60,6 @@ module _ (map : List ℕ) (es : List Entry) (m n blocks : ℕ) where
     told =
         ap₂ (λ (a b : Bool). a && b && windows_pass map es m n) (le-leb m 64 few)
         (ap (λ (r : Option ℕ). option_eq eqb r (Some 0)) (sym is) ∙ sym (ap not en ∙ not_not (option_eq eqb r (Some 0))))
-      where
-        not_not : (b : Bool) → not (not b) ≡ b
-        not_not true = refl
-        not_not false = refl
 
     pub tested_unlike : ne ≡ true → false ≡ tested map es m n blocks
     tested_unlike h = sym (told ∙ ap (λ (b : Bool). not b && windows_pass map es m n) h)
@@ -82,10 +82,6 @@ module _ (map : List ℕ) (es : List Entry) (m n : ℕ) (blocks : Option ℕ) wh
         ap (λ (b : Option ℕ). option_eq eqb (option_and_then (tally_of es n) b) (Some 0) && state_windows_pass map es m n) given
         ∙ ap (λ (b : Bool). b && state_windows_pass map es m n)
         (ap (λ (r : Option ℕ). option_eq eqb r (Some 0)) (sym is) ∙ sym (ap not en ∙ not_not (option_eq eqb r (Some 0))))
-      where
-        not_not : (b : Bool) → not (not b) ≡ b
-        not_not true = refl
-        not_not false = refl
 
     pub state_tested_unlike : ne ≡ true → false ≡ state_tested map es m n blocks
     state_tested_unlike h = sym (state_told ∙ ap (λ (b : Bool). not b && state_windows_pass map es m n) h)
@@ -93,7 +89,7 @@ module _ (map : List ℕ) (es : List Entry) (m n : ℕ) (blocks : Option ℕ) wh
     pub state_tested_windows : ne ≡ false → state_windows_pass map es m n ≡ state_tested map es m n blocks
     state_tested_windows h = sym (state_told ∙ ap (λ (b : Bool). not b && state_windows_pass map es m n) h)
 
--- with no more words and blocks than a card has it is the test of any map
+-- with up to 64 words and 270336 blocks, more than any card has, it is the test of any map
 pub state_tested_is : (map : List ℕ) (es : List Entry) (m n blocks : ℕ) → m ≤ 64 → n ≤ 270336
     → tested map es m n blocks ≡ state_tested map es m n (Some blocks)
 unfolding tested state_tested

@@ -1,4 +1,5 @@
-// The test of a map of any length: every window begins where it stands, however many there are.
+// The test of a map of any length: every window begins where it stands, however many there are, and a scratch of over 64
+// words is too long even for no blocks.
 
 ghost use Rattle.std.specs.Prelude.{◌≡◌, ◌≤◌, length, replicate};
 ghost use Rattle.image_soundness.specs.Windows.{windows_pass, tested};

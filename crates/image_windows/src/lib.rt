@@ -10,12 +10,15 @@ mod tests;
 
 ghost use Rattle.std.specs.Prelude.{◌≡◌, ◌+◌, ◌*◌, ◌/◌, ◌≤◌, ◌&&◌, true, false, length, replicate};
 ghost use Rattle.image_soundness.specs.Windows.{touches, taken, part_stands, scratch_after, parts_stand, scratch_over};
-ghost use Rattle.image_soundness.specs.Windows.{tested, state_window_passes, state_windows_pass, state_tested};
+ghost use Rattle.image_soundness.specs.Windows.{state_window_passes, state_windows_pass, state_tested};
 
 use catalogue::Entry;
 use image_soundness::words::copy_from;
 use image_soundness::{SCRATCH, tally_entries};
 use map_blocks::run::{FREE, TAKEN, all_marked, is_fresh, mark};
+
+// The test of a map of any length. Save and closing ask `test_state`.
+pub use any_size::test_sound;
 
 // The blocks of a window.
 pub const WINDOW: u32 = 4096;
@@ -153,19 +156,4 @@ pub fn test_state(
     let sound = passes(map, catalogue, scratch, n, blocks);
     scratch.fill(0);
     sound
-}
-
-// The same of a map of any length, where the entries must make so many blocks: every window begins where it stands, and a
-// scratch of over 64 words is too long even for no blocks. Save and closing ask `test_state`.
-pub fn test_sound(
-    map: &[u64],
-    catalogue: &[Entry],
-    scratch: &mut [u64],
-    n: u32,
-    blocks: u32,
-) -> bool
-    ensures { (result ≡ tested map.now catalogue.now (length scratch.old) n blocks)
-        × (scratch.new ≡ replicate (length scratch.old) 0) }
-{
-    any_size::test_sound(map, catalogue, scratch, n, blocks)
 }
